@@ -13,6 +13,8 @@ returns-clause-call c =
     let found =
     subst (λ (k : Kept). UnfilteredCall a.max a.percent c.read_nets-classes.result a.words.now k.tables code.result a.out.now new.out new.length)
     c.deref.ensures code.ensures.call in
-    done _ _ _ kept kept _ c.in-Some.ensures.taken c.put.ensures refl
-    (subst (λ (nets : List ℕ). UnfilteredCall a.max a.percent nets a.words.now kept.tables code.result a.out.now new.out new.length)
-    c.read_nets-classes.ensures found, refl)
+    done _ _ _ kept kept _ c.in-Some.ensures.taken c.put.ensures refl (
+      subst (λ (nets : List ℕ). UnfilteredCall a.max a.percent nets a.words.now kept.tables code.result a.out.now new.out new.length)
+          c.read_nets-classes.ensures found,
+      refl,
+    )
