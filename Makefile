@@ -159,7 +159,8 @@ figures:
 	tools/figures
 
 lib:
-	cd crates/addrman_c && rt lib $(if $(BACKEND),--backend $(BACKEND))
+	cd crates/addrman_c && rt $(if $(BACKEND),lib --backend $(BACKEND),check)
+	$(if $(BACKEND),,tools/lib_archive)
 	$(MAKE) archive
 
 # The calls that close take NULL too, and what is freed is wiped, by bindings/edges.c.

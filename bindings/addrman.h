@@ -282,7 +282,8 @@ ADDRMAN_CALL_OF(1, 5, 8) addrman_result addrman_open_file_core(addrman *am, cons
 /* Frees all memory of the object, and closes it. Proved: the object is closed. */
 ADDRMAN_API void addrman_close(addrman *am);
 
-/* How many bytes the file of so many records has at most: room for it before it is known. */
+/* How many bytes the file of so many records has at most: room for it before it is known. Proved:
+ * the clause `few` of `file_length` in crates/node_calls. */
 #define ADDRMAN_FILE_ROOM(records) ((size_t)4210 + (size_t)131 * (records))
 
 /* Writes the file that keeps the tables (format 4) and how many bytes it has. addrman_save_begin
@@ -498,6 +499,19 @@ ADDRMAN_CALL_OF(1, 10) addrman_result addrman_sample_entries(addrman *am, uint32
     uint32_t percent, uint32_t classes, const uint64_t *words, size_t word_count, uint32_t now,
     addrman_entry *entries, size_t capacity, size_t *length);
 
+/* Samples records, also those that no node is told of because they are terrible: at most `max`, and
+ * at most `percent` percent of all records; 0 is no limit. Those of the classes are shuffled, in
+ * the order of their numbers, by a random word for each record of the object, and the first are
+ * written, with *length. It is for the node itself, as for counts by addrman_asn.
+ *   ADDRMAN_ERR_ARGUMENT      `percent` is above 100, or there are 2^32 words or more
+ *   ADDRMAN_ERR_SHORT_WORDS   *length is how many words are needed
+ *   ADDRMAN_ERR_SHORT_BUFFER  nothing is written but *length
+ * Proved: UnfilteredCall (`sample_unfiltered`); the tables are as they were, their order too.
+ * Codes: as of addrman_sample. */
+ADDRMAN_CALL_OF(1, 9) addrman_result addrman_sample_unfiltered(addrman *am, uint32_t max,
+    uint32_t percent, uint32_t classes, const uint64_t *words, size_t word_count,
+    addrman_record *records, size_t capacity, size_t *length);
+
 /* ------------------------------------------------------------------------------- collisions */
 
 typedef struct {
@@ -619,7 +633,7 @@ ADDRMAN_SIZE(addrman_shares, 12);
 
 /* Writes which part of the picks at a time falls to the peers whose addresses are in one of the
  * sets, at most. A peer in two of them counts once.
- *   ADDRMAN_ERR_ARGUMENT  a set is none: its address is none, or more than 256 bits count
+ *   ADDRMAN_ERR_ARGUMENT  a set is none: its address is none, or has fewer bits than are to count
  * Proved: RiskCall (`parts_for`, `is_among`); the parts are bounds (`parts_are_bounds` of the crate
  * risk_parts), and the tables are as they were.
  * Codes: CLOSED, MEMORY, ARGUMENT, MEMORY. */

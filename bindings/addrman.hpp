@@ -369,6 +369,18 @@ public:
         });
     }
 
+    // Records of these classes, terrible ones among them.
+    std::vector<addrman_record> sample_unfiltered(std::uint32_t max, std::uint32_t percent,
+        std::uint32_t classes, view<std::uint64_t> w)
+    {
+        auto c = size();
+        auto count = c.new_count + c.tried_count;
+        return detail::filled<std::vector<addrman_record>>(count, [&](auto *p, auto n, auto *l) {
+            return addrman_sample_unfiltered(am_.get(), max, percent, classes, w.data(), w.size(),
+                p, n, l);
+        });
+    }
+
     addrman_resolved resolve_collisions(std::uint32_t now)
     {
         addrman_resolved out{};

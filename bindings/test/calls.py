@@ -92,6 +92,16 @@ def check_records(am, peers):
         sample = first.sample(limit, 23, 0x3e, shuffled, NOW)
         entries = [addrman.Entry(r.time, r.services, r.peer) for r in map(first.find, sample)]
         same("a sample", second.sample_entries(limit, 23, 0x3e, shuffled, NOW), entries)
+    # Forty days later every record is terrible, and a sample without the filter is one of all the same.
+    records, onion = am.records(), 1 << addrman.ONION
+    same("a sample of terrible records", am.sample(0, 0, addrman.ALL_NETS, words(len(records)), NOW + 40 * 86400), [])
+    for most, percent, classes in ((0, 0, addrman.ALL_NETS), (10, 0, addrman.ALL_NETS), (0, 23, onion), (1000, 100, onion), (0, 0, 0)):
+        drawn, left = words(len(records)), [r for r in records if classes != onion or r.peer.startswith("onion:")] if classes else []
+        for i in range(len(left)):
+            j = i + drawn[i] % (len(left) - i)
+            left[i], left[j] = left[j], left[i]
+        part = percent * len(records) // 100 if percent else len(records)
+        same("an unfiltered sample", am.sample_unfiltered(most, percent, classes, drawn), left[:min(part, most or part)])
     opened = []
     for peer in peers:
         if len(opened) < 10 and am.group(peer.rpartition(":")[0]) not in [am.group(p.rpartition(":")[0]) for p in opened]:

@@ -29,6 +29,17 @@ template <class Call> static bool is_closed(Call call)
     }
 }
 
+// Whether a call says that an argument has no meaning.
+template <class Call> static bool is_invalid(Call call)
+{
+    try {
+        call();
+        return false;
+    } catch (const std::invalid_argument &) {
+        return true;
+    }
+}
+
 int main()
 {
     const seed s{1, 2};
@@ -63,6 +74,7 @@ int main()
     const auto record = two.select_record(false, ADDRMAN_ALL_NETS, {87, 37, 0}, 1700000000);
     want(record && record->services == 1 && two.new_slot(peer, record->buckets[0]) == 37, "a record has another place");
     want(two.tried_slot(peer).first < 256 && two.sample_entries(0, 0, ADDRMAN_ALL_NETS, {7}, 1700000000)[0].services == 1, "no entry");
+    want(two.sample_unfiltered(0, 0, ADDRMAN_NET(ADDRMAN_IPV4), {7}).at(0).services == 1, "a record is left out");
     two.open_peer(peer);
     want(text_of(two.open_peers().at(0)) == "8.8.8.8:8333" && two.close_peer(peer) && two.open_peers().empty(), "open peers are others");
     want(two.take_chosen(true, message, source, 1, 8, ADDRMAN_ALL_NETS, {1, 2}, 1700000000).total == 1, "no entry is chosen");
@@ -78,6 +90,15 @@ int main()
     tables mapped(key{}, s, map);
     want(mapped.asn(source) == 5 && mapped.group(source).size() == 5, "a number is another");
     want(two.risk({subnet_set("8.8.0.0/16"), asn_set(5)}, 1700000000).picks == 1000000, "the part of a subnet is another");
+    for (const char *text : {"8.8.0.0", "[2001:db8::]", "cjdns:fc000000000000000000000000000001"}) {
+        addrman_set set{};
+        set.base = parse_addr(text);
+        const std::uint32_t bits = 8u * set.base.length;
+        for (std::uint32_t prefix : {0u, bits, bits + 1, 256u, 0x10000u}) {
+            set.prefix = prefix;
+            want(is_invalid([&] { two.risk({set}, 1700000000); }) == (prefix > bits), "more bits count than an address has");
+        }
+    }
     want(two.risk({asn_set(5)}, 1700000000).picks == 0 && two.risk({}, 1700000000).new_only == 0, "a part of nobody is another");
     want(two.judge({peer, 0}, 1700000000, 1) == ADDRMAN_TAKE, "a peer is not taken");
     want(limits.getaddr(1) == ADDRMAN_GETADDR_GRANTED && limits.admit(1, 1000, 1000) == 1000u && !limits.admit(2, 1, 1000), "a limit is another");

@@ -30,11 +30,12 @@ void *__wrap_realloc(void *old, size_t size)
     return fails() ? NULL : __real_realloc(old, size);
 }
 
-enum { CALLS = 25 };
+enum { CALLS = 26 };
 static const char *names[CALLS] = { "open", "take_message", "good", "add", "select", "sample", "records", "peer_text",
                                     "write_file", "open_file", "save_begin", "asmap_compile", "asmap_decompile",
                                     "bans_open", "answers_open", "answer", "message_count", "read_message", "write_message",
-                                    "name_text", "sample_entries", "take_chosen", "opener_peers", "take_unbanned", "risk" };
+                                    "name_text", "sample_entries", "take_chosen", "opener_peers", "take_unbanned", "risk",
+                                    "sample_unfiltered" };
 
 /* An addr message of three entries. */
 static size_t fill(uint8_t *out)
@@ -122,6 +123,7 @@ int main(void)
         const addrman_set set = { { { 8, 8 }, ADDRMAN_IPV4, 4 }, 16, 0 };
         addrman_shares shares;
         code[24] = addrman_risk(&a, &set, 1, 1700000007, &shares);
+        code[25] = addrman_sample_unfiltered(&a, 0, 0, ADDRMAN_ALL_NETS, words, 12, records, 9, &length);
         bool reached = left == 0;
         left = 0;
         unsigned failed = 0;

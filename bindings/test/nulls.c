@@ -117,6 +117,7 @@ static int carry_out(struct world *w, unsigned call, const void *in, void *out)
     case 38: return (int)addrman_answer(&w->answers, am, &w->bans, ADDRMAN_IPV4, 0, true, false, now, in, 0, out, 0, length);
     case 39: return (int)addrman_answer(&w->answers, am, &w->bans, ADDRMAN_IPV4, 0, true, false, now, seed, 0, out, 0, length);
     case 40: return (int)addrman_risk(am, in, 0, now, &w->shares);
+    case 41: return (int)addrman_sample_unfiltered(am, 0, 0, ADDRMAN_ALL_NETS, in, 0, out, 0, length);
     default: return -1;
     }
 }
@@ -183,7 +184,7 @@ static void others(void)
     expect(shares.picks == 1000000 && shares.new_only == 1000000 && shares.tried == 0, "the part of a subnet");
     must(addrman_risk(&am, sets, 1, now, &shares), "risk");
     expect(shares.picks == 0 && shares.new_only == 0 && shares.tried == 0, "the part of an AS without an asmap");
-    sets[1].prefix = 257;
+    sets[1].prefix = 33;
     expect(addrman_risk(&am, sets, 2, now, &shares) == ADDRMAN_ERR_ARGUMENT, "a set of too many bits");
     expect(addrman_judge_feeler(0, now, 1) == ADDRMAN_TAKE && addrman_judge_feeler(now, now, 1) == ADDRMAN_RECENT, "a verdict");
     addrman_close(&am);

@@ -189,6 +189,7 @@ _SIGNATURES = {
     "select_record": [_P, _BOOL, _U32, _P, _SIZE, _U32, _P],
     "sample": [_P, _U32, _U32, _U32, _P, _SIZE, _U32, _P, _SIZE, _P],
     "sample_entries": [_P, _U32, _U32, _U32, _P, _SIZE, _U32, _P, _SIZE, _P],
+    "sample_unfiltered": [_P, _U32, _U32, _U32, _P, _SIZE, _P, _SIZE, _P],
     "resolve_collisions": [_P, _U32, _P], "select_collision": [_P, _U64, _P],
     "size": [_P, _P], "size_of": [_P, _U32, _P, _P], "find": [_P, _P, _P], "records": [_P, _P, _SIZE, _P],
     "asmap_check": [_P, _SIZE], "asn": [_P, _P, _P], "group": [_P, _P, _P, _SIZE, _P],
@@ -593,6 +594,13 @@ class AddrMan(_Object):
             return [_entry(e) for e in self._filled(_Entry, size.new + size.tried, "sample_entries", _number("max", max),
                                                     _number("percent", percent), _number("classes", classes), *_words(words),
                                                     _number("now", now))]
+
+    def sample_unfiltered(self, max: int, percent: int, classes: int, words: Sequence[int]) -> list[Record]:
+        """Records of these classes, terrible ones among them; a random word for each record of the object."""
+        with self._lock:
+            size = self.size()
+            return [_record(r) for r in self._filled(_Record, size.new + size.tried, "sample_unfiltered", _number("max", max),
+                                                     _number("percent", percent), _number("classes", classes), *_words(words))]
 
     def resolve_collisions(self, now: int) -> Resolved:
         out = _Three()

@@ -27,7 +27,7 @@ use Rattle.c_values.specs.declared.structs.AddrmanFault.{AddrmanFault}
 use Rattle.c_values.specs.declared.structs.AddrmanPicked.{AddrmanPicked}
 use Rattle.c_values.specs.declared.structs.AddrmanRecord.{AddrmanRecord}
 use Rattle.c_values.specs.Faults.{fault_at, fault_number}
-use Rattle.c_values.specs.Records.{AreRecords, IsRecord}
+use Rattle.c_values.specs.Records.{IsRecord, RecordsPut}
 use Rattle.c_values.specs.Values.{peer_in, bit}
 
 -- nothing is done, for the reason that the code says
@@ -146,13 +146,10 @@ FindCall None st code out = code ≡ ARGUMENT
 FindCall (Some peer) st code out = MatchOption (find_peer st peer) (code ≡ NONE)
     (λ r. (code ≡ OK) × IsRecord out r)
 
--- all records, whole or not at all, with nothing after them, and how many they are
+-- the records and how many they are, or there is no memory for them
 abbrev pub RecordsCall : List Rec → ℕ → List AddrmanRecord → List AddrmanRecord → ℕ → Type 0
 RecordsCall recs code old new count =
-    ((code ≡ MEMORY) × (new ≡ old))
-    ⊎ ((count ≡ length recs)
-    × (((length old < length recs) × (code ≡ SHORT_BUFFER) × (new ≡ old))
-    ⊎ ((code ≡ OK) × AreRecords new recs × (drop (length recs) new ≡ drop (length recs) old))))
+    ((code ≡ MEMORY) × (new ≡ old)) ⊎ RecordsPut recs code old new count
 
 -- the code and the record for a pick: a peer that is picked has one
 abbrev pub PickRecordCall : Picked → State → ℕ → AddrmanRecord → Type 0

@@ -1,5 +1,5 @@
 -- What the call on the parts of the picks returns and writes.
-use Rattle.std.specs.Prelude.{◌≡◌, ◌⊎◌, ℕ, ◌<◌, ◌==◌, nat_lt, not, List, length, flat_map, option_to_list, option_map, Option, Some, None, if◌then◌else◌}
+use Rattle.std.specs.Prelude.{◌≡◌, ◌⊎◌, ℕ, ◌*◌, ◌<◌, ◌==◌, nat_lt, not, List, length, flat_map, option_to_list, option_and_then, Option, Some, None, if◌then◌else◌}
 use Rattle.net_addr.specs.Address.{Address}
 use Rattle.risk_parts.specs.Parts.{parts_for}
 use Rattle.risk_parts.specs.Sets.{is_among}
@@ -10,19 +10,19 @@ use Rattle.table_machine.specs.State.{State}
 use Rattle.c_values.specs.declared.code.TheConstants.{OK, MEMORY, ARGUMENT}
 use Rattle.c_values.specs.Values.{address_in}
 use Rattle.addrman_c.specs.declared.risk.AddrmanSet.{AddrmanSet}
-use Rattle.addrman_c.specs.declared.risk.TheConstants.{MAX_PREFIX}
 use Rattle.addrman_c.specs.declared.risk.AddrmanShares.{AddrmanShares}
 
--- the subnet of these bits of the address
-abbrev pub subnet_of : ℕ → Address → AddrSet
-subnet_of prefix addr = Subnet (record { addr = addr; len = prefix })
+-- the subnet of the first bits of the address, if it has so many
+abbrev pub subnet_of : ℕ → Address → Option AddrSet
+subnet_of prefix addr =
+    if nat_lt (8 * length addr.bytes) prefix then None
+    else Some (Subnet (record { addr = addr; len = prefix }))
 
--- the set, if it has the number of an autonomous system, or the address of a subnet
+-- the set, if it has the number of an autonomous system, or the address and the length of a subnet
 abbrev pub set_in : AddrmanSet → Option AddrSet
 set_in out =
     if not (out.asn == 0) then Some (Number out.asn)
-    else if nat_lt MAX_PREFIX out.prefix then None
-    else option_map (subnet_of out.prefix) (address_in out.base)
+    else option_and_then (subnet_of out.prefix) (address_in out.base)
 
 -- the sets, without those that are none
 abbrev pub sets_in : List AddrmanSet → List AddrSet

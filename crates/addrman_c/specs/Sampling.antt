@@ -7,10 +7,12 @@ use Rattle.table_machine.specs.State.{State, find_peer}
 use Rattle.table_machine.specs.Picks.{sample}
 use Rattle.c_values.specs.declared.code.TheConstants.{MEMORY, ARGUMENT, SHORT_WORDS}
 use Rattle.c_values.specs.declared.structs.AddrmanEntry.{AddrmanEntry}
+use Rattle.c_values.specs.declared.structs.AddrmanRecord.{AddrmanRecord}
 use Rattle.c_values.specs.declared.values.AddrmanPeer.{AddrmanPeer}
 use Rattle.c_values.specs.Entries.{EntriesPut}
 use Rattle.c_values.specs.Records.{PeersPut}
-use Rattle.addrman_c.specs.Calls.{Refuses}
+use Rattle.node_calls.specs.Unfiltered.{sample_unfiltered}
+use Rattle.addrman_c.specs.Calls.{RecordsCall, Refuses}
 
 -- A sample. With fewer words than records the code is SHORT_WORDS and no other, so MEMORY says that
 -- there are words enough. Unless words or memory lack, the order of the records is that after the
@@ -55,3 +57,14 @@ SampleEntriesCall most percent classes words now old code out_old out_new count 
     ⊎ ((new ≡ (sample old most percent classes words now).state)
     × PutEntries (entries_of new (sample old most percent classes words now).answer) code out_old
     out_new count)))))
+
+-- A sample of all records, terrible ones among them, as records. With fewer words than records the
+-- code is SHORT_WORDS and no other.
+abbrev pub UnfilteredCall : ℕ → ℕ → List ℕ → List ℕ → State → ℕ → List AddrmanRecord
+    → List AddrmanRecord → ℕ → Type 0
+UnfilteredCall most percent classes words st code old new count =
+    (((100 < percent) ⊎ (2 ^ 32 ≤ length words)) × (code ≡ ARGUMENT))
+    ⊎ ((percent ≤ 100) × (length words < 2 ^ 32)
+    × (((length words < length st.order) × (count ≡ length st.order) × (code ≡ SHORT_WORDS))
+    ⊎ ((length st.order ≤ length words)
+    × RecordsCall (sample_unfiltered st most percent classes words) code old new count)))

@@ -65,7 +65,7 @@ pub use places::{
 };
 pub use records::{addrman_find, addrman_records, addrman_size, addrman_size_of};
 pub use risk::{AddrmanSet, AddrmanShares, addrman_risk};
-pub use sampling::{addrman_sample, addrman_sample_entries};
+pub use sampling::{addrman_sample, addrman_sample_entries, addrman_sample_unfiltered};
 pub use saves::{addrman_save_begin, addrman_save_close, addrman_save_done, addrman_save_next};
 
 /// Returns the number of the structs' layout and of the calls, `ADDRMAN_ABI` in the header.

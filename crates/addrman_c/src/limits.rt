@@ -20,7 +20,7 @@ pub extern "C" fn addrman_limiter_open(alloc: Global, handle: &mut LimiterHandle
     let _old = handle.take(alloc);
     let kept = KeptLimiter {
         // Numbers are the node's own, so the keys need not be secret.
-        limiter: Limiter::make(alloc, Keyed::make(0, 0)),
+        limiter: Limiter::make(alloc, Keyed::of(&[0, 0])),
     };
     match Box::new(alloc, kept) {
         Ok(kept) => {

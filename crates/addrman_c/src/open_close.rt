@@ -91,7 +91,7 @@ fn open_by(
     let Ok(map) = check_map(asmap) else {
         return REFUSED;
     };
-    let Some(kept) = empty(alloc, *key, Keyed::make(seed[0], seed[1]), map, rule) else {
+    let Some(kept) = empty(alloc, *key, Keyed::of(seed), map, rule) else {
         return MEMORY;
     };
     handle.put(kept);

@@ -143,14 +143,7 @@ fn open_by(
         *fault = AddrmanFault { kind: 21, at: 0 };
         return REFUSED;
     };
-    match loaded(
-        alloc,
-        bytes,
-        chain,
-        Keyed::make(seed[0], seed[1]),
-        map,
-        rule,
-    ) {
+    match loaded(alloc, bytes, chain, Keyed::of(seed), map, rule) {
         Ok(kept) => {
             handle.put(kept);
             OK

@@ -61,16 +61,10 @@ fn records_on(tables: &Tables<'_, Keyed>, out: &mut [AddrmanRecord], length: &mu
     ensures call { RecordsCall tables.now.records result out.old out.new length.new }
     ensures length { result ≢ OK → result ≢ SHORT_BUFFER → length.new ≡ length.old }
 {
-    let Ok(recs) = node_calls::recs(tables) else {
-        return MEMORY;
-    };
-    let recs = recs.items();
-    *length = recs.len();
-    if recs.len() > out.len() {
-        return SHORT_BUFFER;
+    match node_calls::recs(tables) {
+        Ok(recs) => put_records(out, recs.items(), length),
+        Err(_) => MEMORY,
     }
-    put_records(out, recs);
-    OK
 }
 
 /// Writes all records in increasing order of their numbers, and how many they are.

@@ -1,18 +1,16 @@
 ghost use Rattle.std.specs.Prelude.{◌≡◌, ◌≢◌, ◌≤◌, length, IfOk};
 ghost use Rattle.addrman_c.specs.OnHandle.{OnTables};
-ghost use Rattle.addrman_c.specs.Risk.{RiskCall, set_in, sets_in};
+ghost use Rattle.addrman_c.specs.Risk.{RiskCall, set_in, sets_in, subnet_of};
 
 use ban_list::Subnet;
 use c_handles::{Handle, Keyed};
 use c_values::code::{ARGUMENT, CLOSED, MEMORY, OK};
 use c_values::{AddrmanAddr, read_addr};
+use net_addr::NetAddr;
 use risk_parts::AddrSet;
 use std::alloc::Global;
 use table_risk::{Memory, set_parts};
 use tables::Tables;
-
-/// The bits of the longest addresses.
-const MAX_PREFIX: u32 = 256;
 
 /// A set of addresses: those that an autonomous system of this number announces, or if that is 0,
 /// those of a subnet, by its address and how many bits of it count.
@@ -34,21 +32,27 @@ pub struct AddrmanShares {
     pub tried: u32,
 }
 
-/// Reads a set, or `None` if its address is not valid.
+/// Returns the subnet of the first bits of an address, or `None` if it has fewer.
+fn subnet_of(addr: NetAddr, prefix: u32) -> Option<AddrSet>
+    ensures { result ≡ subnet_of prefix addr }
+{
+    if prefix as usize > 8 * addr.bytes().len() {
+        return None;
+    }
+    Some(AddrSet::Subnet(Subnet {
+        addr,
+        len: prefix as u16,
+    }))
+}
+
+/// Reads a set, or `None` if its address is not valid, or has fewer bits than count.
 fn read_set(set: &AddrmanSet) -> Option<AddrSet>
     ensures { result ≡ set_in set.now }
 {
     if set.asn != 0 {
         return Some(AddrSet::Number(set.asn));
     }
-    if set.prefix > MAX_PREFIX {
-        return None;
-    }
-    let addr = read_addr(&set.base)?;
-    Some(AddrSet::Subnet(Subnet {
-        addr,
-        len: set.prefix as u16,
-    }))
+    subnet_of(read_addr(&set.base)?, set.prefix)
 }
 
 /// Reads sets, without those that are none.

@@ -1,13 +1,16 @@
 ghost use Rattle.std.specs.Prelude.{◌≡◌, ◌≢◌, ◌%◌, IfOk, option_map};
 ghost use Rattle.net_addr.specs.NetBits.{nets_of};
-ghost use Rattle.addrman_c.specs.Sampling.{SampleCall, PutEntries, SampleEntriesCall, entries_of, entry};
+ghost use Rattle.addrman_c.specs.Sampling.{SampleCall, PutEntries, SampleEntriesCall, UnfilteredCall, entries_of, entry};
 ghost use Rattle.addrman_c.specs.OnHandle.{OnTables};
 ghost use Rattle.table_machine.specs.State.{find_peer};
 
 use c_handles::{Handle, Keyed};
 use c_values::code::{ARGUMENT, CLOSED, MEMORY, OK, SHORT_BUFFER, SHORT_WORDS};
-use c_values::{AddrmanEntry, AddrmanPeer, put_entries, put_peers, read_nets};
+use c_values::{
+    AddrmanEntry, AddrmanPeer, AddrmanRecord, put_entries, put_peers, put_records, read_nets,
+};
 use net_addr::{Entry, Memory, NetSet, Peer};
+use node_calls::sample_unfiltered;
 use picking::SampleFault;
 use std::alloc::Global;
 use tables::Tables;
@@ -197,6 +200,76 @@ pub extern "C" fn addrman_sample_entries(
         read_nets(classes),
         words,
         now,
+        out,
+        length,
+    );
+    handle.put(kept);
+    code
+}
+
+/// Samples records, terrible ones among them.
+fn unfiltered_on(
+    alloc: Global,
+    tables: &Tables<'_, Keyed>,
+    max: u32,
+    percent: u32,
+    classes: NetSet,
+    words: &[u64],
+    out: &mut [AddrmanRecord],
+    length: &mut usize,
+) -> u32
+    ensures call { UnfilteredCall max percent classes words.now tables.now result out.old out.new
+        length.new }
+    ensures same { result ≢ OK → out.new ≡ out.old }
+    ensures length { result ≢ OK → result ≢ SHORT_WORDS → result ≢ SHORT_BUFFER
+        → length.new ≡ length.old }
+{
+    if percent > 100 {
+        return ARGUMENT;
+    }
+    if words.len() > 0xffff_ffff {
+        return ARGUMENT;
+    }
+    match sample_unfiltered(alloc, tables, max, percent, classes, words) {
+        Ok(recs) => put_records(out, recs.items(), length),
+        Err(SampleFault::ShortWords { need, .. }) => {
+            *length = need as usize;
+            SHORT_WORDS
+        }
+        Err(SampleFault::Memory) => MEMORY,
+    }
+}
+
+/// Samples records by random words, terrible ones among them, of the classes of a set.
+#[unsafe(no_mangle)]
+pub extern "C" fn addrman_sample_unfiltered(
+    alloc: Global,
+    handle: &mut Handle,
+    max: u32,
+    percent: u32,
+    classes: u32,
+    words: &[u64],
+    out: &mut [AddrmanRecord],
+    length: &mut usize,
+) -> u32
+    ensures call { OnTables handle.old.loose.kept result handle.new.loose.kept (λ old new.
+        UnfilteredCall max percent (nets_of (classes % 128)) words.now old result out.old out.new
+        length.new × (new ≡ old)) }
+    ensures same { result ≢ OK → out.new ≡ out.old }
+    ensures length { result ≢ OK → result ≢ SHORT_WORDS → result ≢ SHORT_BUFFER
+        → length.new ≡ length.old }
+{
+    let Some(kept) = handle.take(alloc) else {
+        return CLOSED;
+    };
+    let classes = read_nets(classes);
+    let code = unfiltered_on(
+        alloc,
+        &kept.tables,
+        max,
+        percent,
+        classes,
+        words,
         out,
         length,
     );

@@ -1,3 +1,6 @@
+ghost use Rattle.std.specs.Prelude.{◌≡◌};
+ghost use Rattle.c_handles.specs.Seeded.{seeded};
+
 use std::hash::{BuildHasher, DefaultHasher, Hasher};
 
 /// A hasher with two keys: SipHash-1-3, which is given the keys before the input. Random keys keep
@@ -10,10 +13,13 @@ pub struct Keyed {
 
 impl Keyed {
     /// Makes the hasher of two keys.
-    pub fn make(first: u64, second: u64) -> Keyed {
+    pub fn of(keys: &[u64; 2]) -> Keyed
+        ensures { result.start ≡ seeded keys.now }
+    {
         let mut start = DefaultHasher::new();
-        start.write_u64(first);
-        start.write_u64(second);
+        for key in keys {
+            start.write_u64(*key);
+        }
         Keyed { start }
     }
 }

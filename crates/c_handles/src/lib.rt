@@ -5,7 +5,7 @@
 //! (`loose.kept`): `None` if it is closed.
 //!
 //! Proved: `take` gives what the handle keeps and leaves it closed, and `put` keeps what it is
-//! given.
+//! given. A hasher is given both of its keys (`seeded`).
 #![tactic(auto)]
 
 mod answers_handle;

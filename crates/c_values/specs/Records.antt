@@ -28,6 +28,13 @@ AreRecords out recs = (length recs ≤ length out)
     × ((i : ℕ) (told : AddrmanRecord) (r : Rec) → slice_get out i ≡ Some told
     → slice_get recs i ≡ Some r → IsRecord told r)
 
+-- records are written whole, and nothing after them; the output is as it was if it has less room
+abbrev pub RecordsPut : List Rec → ℕ → List AddrmanRecord → List AddrmanRecord → ℕ → Type 0
+RecordsPut recs code old new count =
+    (count ≡ length recs)
+    × (((length old < length recs) × (code ≡ SHORT_BUFFER) × (new ≡ old))
+    ⊎ ((code ≡ OK) × AreRecords new recs × (drop (length recs) new ≡ drop (length recs) old)))
+
 -- the structs have the fields of the peers, in the same order
 abbrev pub ArePeers : List AddrmanPeer → List Peer → Type 0
 ArePeers out peers = (length peers ≤ length out)

@@ -1,7 +1,8 @@
-ghost use Rattle.std.specs.Prelude.{◌≡◌, ◌≤◌, length, take, drop};
+ghost use Rattle.std.specs.Prelude.{◌≡◌, ◌≢◌, ◌≤◌, length, take, drop};
 ghost use Rattle.peer_rec.specs.Rec.{buckets_by};
-ghost use Rattle.c_values.specs.Records.{IsRecord, AreRecords};
+ghost use Rattle.c_values.specs.Records.{IsRecord, AreRecords, RecordsPut};
 
+use crate::code::{OK, SHORT_BUFFER};
 use crate::structs::AddrmanRecord;
 use crate::values::{write_addr, write_peer};
 use peer_rec::{Place, Rec};
@@ -43,7 +44,7 @@ pub fn write_record(rec: &Rec) -> AddrmanRecord
 }
 
 /// Writes records to the start of an output that has room for them.
-pub fn put_records(out: &mut [AddrmanRecord], recs: &[Rec])
+fn put_start(out: &mut [AddrmanRecord], recs: &[Rec])
     requires { length recs.now ≤ length out.old }
     ensures told { AreRecords out.new recs.now }
     ensures rest { drop (length recs.now) out.new ≡ drop (length recs.now) out.old }
@@ -51,4 +52,17 @@ pub fn put_records(out: &mut [AddrmanRecord], recs: &[Rec])
     for i in 0..recs.len() {
         out[i] = write_record(&recs[i]);
     }
+}
+
+/// Writes records, whole or not at all, and how many they are.
+pub fn put_records(out: &mut [AddrmanRecord], recs: &[Rec], length: &mut usize) -> u32
+    ensures call { RecordsPut recs.now result out.old out.new length.new }
+    ensures same { result ≢ OK → out.new ≡ out.old }
+{
+    *length = recs.len();
+    if recs.len() > out.len() {
+        return SHORT_BUFFER;
+    }
+    put_start(out, recs);
+    OK
 }

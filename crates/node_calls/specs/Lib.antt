@@ -1,3 +1,4 @@
 pub mod Chosen
 pub mod First
 pub mod Picked
+pub mod Unfiltered

@@ -136,17 +136,17 @@ fn chosen(
     useful_of(alloc, first, services, nets, bans, now)
 }
 
-/// Exchanges each entry in turn with one from its position on, which its random word selects.
-fn shuffle(entries: &mut [Option<Entry>], words: &[u64])
-    requires enough { length entries.old ≤ length words.now }
-    ensures after { entries.new ≡ shuffled entries.old 0 words.now }
-    ensures count { length entries.new ≡ length entries.old }
+/// Exchanges each item in turn with one from its position on, which its random word selects.
+pub(crate) fn shuffle<T>(items: &mut [T], words: &[u64])
+    requires enough { length items.old ≤ length words.now }
+    ensures after { items.new ≡ shuffled items.old 0 words.now }
+    ensures count { length items.new ≡ length items.old }
 {
-    let count = entries.len();
+    let count = items.len();
     for i in 0..count {
         let left = (count - i) as u64;
         let other = i + (words[i] % left) as usize;
-        entries.swap(i, other);
+        items.swap(i, other);
     }
 }
 

@@ -5,7 +5,8 @@
 //! so with the first entries of a message (`IsFirstAdded`, `IsFirstFault`), and `take_chosen` and
 //! `take_unbanned` with those that a node has a use for, after a shuffle (`IsChosenAdded`,
 //! `IsChosenFault`). A peer that `select` picks has a record (`record`, `known`).
-//! `file_length` is the length of the file that `peers_file::write_file` makes of the snapshot.
+//! `sample_unfiltered` is a sample of all records, terrible ones among them, and `file_length` the
+//! length of the file that `peers_file::write_file` makes of the snapshot, with a bound (`few`).
 #![tactic(auto)]
 
 mod adding;
@@ -13,9 +14,11 @@ mod adding_chosen;
 mod attempts;
 mod picks;
 mod records;
+mod sampling;
 
 pub use adding::{add, take_first, take_message};
 pub use adding_chosen::{take_chosen, take_unbanned};
 pub use attempts::{attempt, connected, good, services};
 pub use picks::{clash_pick, resolve, sample, select};
 pub use records::{file_length, find, recs, restore, snapshot};
+pub use sampling::sample_unfiltered;

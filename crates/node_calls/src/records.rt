@@ -124,9 +124,11 @@ fn count_restore<'a, H: BuildHasher + Drop, L: Ledger>(
 }
 
 /// Returns the length in bytes of the file that keeps the tables (`peers_file::write_file` of their
-/// snapshot), without making it: one pass over the records that takes no memory.
+/// snapshot), without making it: one pass over the records that takes no memory. It has at most 131
+/// bytes for each record.
 pub fn file_length<H: BuildHasher>(tables: &Tables<'_, H>) -> usize
-    ensures { (chain : Chain) → result ≡ length (file_text chain (snapshot_of tables.now)) }
+    ensures exact { (chain : Chain) → result ≡ length (file_text chain (snapshot_of tables.now)) }
+    ensures few { result ≤ 4210 + 131 * length tables.now.order }
 {
     count_file_length::<H, Brand>(tables, Blank::new(1))
 }
@@ -136,7 +138,8 @@ fn count_file_length<H: BuildHasher, L: Ledger>(tables: &Tables<'_, H>, blank: B
     requires name { blank.name ≡ L.name }
     requires parts { blank.parts ≡ L.parts }
     requires one { blank.parts ≡ 1 }
-    ensures { (chain : Chain) → result ≡ length (file_text chain (snapshot_of tables.now)) }
+    ensures exact { (chain : Chain) → result ≡ length (file_text chain (snapshot_of tables.now)) }
+    ensures few { result ≤ 4210 + 131 * length tables.now.order }
 {
     let mut steps = Steps::<L>::none(blank);
     let counts = tables.counts();

@@ -2,6 +2,8 @@
 use Rattle.std.specs.Prelude.{◌≡◌, ℕ, zero, suc, List, [], ◌∷◌, length, min}
 use Rattle.rand_core.specs.Stream.{Stream, next_u64}
 use Rattle.net_addr.specs.declared.peer.Peer.{Peer}
+use Rattle.peer_rec.specs.declared.rec.Rec.{Rec}
+use Rattle.node_calls.specs.Unfiltered.{sample_unfiltered}
 use Rattle.table_machine.specs.State.{State}
 use Rattle.table_machine.specs.Picks.{sample}
 
@@ -16,3 +18,9 @@ IsSample stream old max percent classes now peers new =
     (words : List ℕ) × (words ≡ next_words (length old.order) stream)
     × (peers ≡ (sample old max (min percent 100) classes words now).answer)
     × (new ≡ (sample old max (min percent 100) classes words now).state)
+
+-- the same of a sample with terrible records, which leaves the tables as they are
+abbrev pub IsUnfiltered : Stream → State → ℕ → ℕ → List ℕ → List Rec → Type 0
+IsUnfiltered stream st max percent classes recs =
+    (words : List ℕ) × (words ≡ next_words (length st.order) stream)
+    × (recs ≡ sample_unfiltered st max (min percent 100) classes words)

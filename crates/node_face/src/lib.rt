@@ -33,6 +33,6 @@ pub use messages::{WriteFault, write_message};
 pub use outbound::{OutboundFault, add_outbound};
 pub use prefixes::read_prefixes;
 pub use proper_ban::ProperBan;
-pub use sampling::sample;
+pub use sampling::{sample, sample_unfiltered};
 pub use saving::{SaveFault, save, write};
 pub use subnet::ProperSubnet;

@@ -1,7 +1,8 @@
 ghost use Rattle.std.specs.Prelude.{◌≡◌, IfOk, OnErr, length};
-ghost use Rattle.node_face.specs.Sampling.{IsSample, next_words};
+ghost use Rattle.node_face.specs.Sampling.{IsSample, IsUnfiltered, next_words};
 
 use net_addr::NetSet;
+use peer_rec::Recs;
 use picking::{Peers, SampleFault};
 use rand_core::Rng;
 use std::alloc::Global;
@@ -42,6 +43,30 @@ pub fn sample<H: BuildHasher, R: Rng>(
     let percent = percent.min(100);
     match node_calls::sample(alloc, tables, max, percent, classes, words.as_slice(), now) {
         Ok(peers) => Ok(peers),
+        Err(SampleFault::Memory) => Err(Memory),
+        Err(SampleFault::ShortWords { .. }) => unreachable!(),
+    }
+}
+
+/// Samples records, terrible ones among them, of these classes: at most `max`, and at most `percent`
+/// percent of all records. A limit of 0 is none, and so are 100 percent and more
+/// (`node_calls::sample_unfiltered`). Draws a word for each record.
+pub fn sample_unfiltered<H: BuildHasher, R: Rng>(
+    alloc: Global,
+    tables: &Tables<'_, H>,
+    max: u32,
+    percent: u32,
+    classes: NetSet,
+    rng: &mut R,
+) -> Result<Recs, Memory>
+    ensures { IfOk result (λ recs.
+        IsUnfiltered (R.stream rng.old) tables.now max percent classes recs) }
+{
+    let counts = tables.counts();
+    let words = words_of(alloc, counts.new_count + counts.tried_count, rng)?;
+    let percent = percent.min(100);
+    match node_calls::sample_unfiltered(alloc, tables, max, percent, classes, words.as_slice()) {
+        Ok(recs) => Ok(recs),
         Err(SampleFault::Memory) => Err(Memory),
         Err(SampleFault::ShortWords { .. }) => unreachable!(),
     }

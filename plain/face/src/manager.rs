@@ -378,6 +378,42 @@ impl AddrMan {
         Ok(peers)
     }
 
+    /// Samples records in random order, also those that no other node is told of because they are
+    /// terrible: at most `max`, and at most `percent` percent of all. `None` is no limit. It is for
+    /// the node itself, as to see how many providers its peers have.
+    ///
+    /// # Errors
+    ///
+    /// Out of memory.
+    ///
+    /// ```
+    /// # use addrman::{AddrMan, Networks};
+    /// # use rand_xoshiro::{Xoshiro256PlusPlus, rand_core::SeedableRng};
+    /// # let mut rng = Xoshiro256PlusPlus::seed_from_u64(1);
+    /// # let peers = AddrMan::new(&mut rng).unwrap();
+    /// let records = peers.sample_unfiltered(None, None, Networks::IPV4, &mut rng);
+    /// assert_eq!(records, Ok(vec![]));
+    /// ```
+    pub fn sample_unfiltered<R: RngCore + ?Sized>(
+        &self,
+        max: Option<u32>,
+        percent: Option<u32>,
+        networks: Networks,
+        rng: &mut R,
+    ) -> Result<Vec<Record>, Memory> {
+        let mut records = Vec::new();
+        if max == Some(0) || percent == Some(0) {
+            return Ok(records);
+        }
+        let (max, percent) = (max.unwrap_or(0), percent.unwrap_or(0));
+        let (tables, nets) = (&self.tables, networks.set());
+        let found =
+            node_face::sample_unfiltered(Global, tables, max, percent, nets, &mut Words(rng))?;
+        records.try_reserve_exact(found.items().len())?;
+        records.extend(found.items().iter().map(Record::of));
+        Ok(records)
+    }
+
     /// Decides on all collisions: an occupant that was not reached when it was tested, or was not
     /// tested in 40 minutes, leaves its slot to the newcomer. Returns how many had which end.
     ///

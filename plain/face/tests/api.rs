@@ -165,6 +165,29 @@ fn a_sample_has_no_more_than_its_limits() {
 }
 
 #[test]
+fn an_unfiltered_sample_has_terrible_records_too() {
+    let mut peers = many(3000);
+    let size = peers.size();
+    let all = (size.new_count + size.tried_count) as usize;
+    let (mut rng, late) = (rng(5), NOW + 40 * 86_400);
+    let told = peers.get_addr(None, None, Networks::ALL, late, &mut rng);
+    assert_eq!(told.unwrap().len(), 0);
+    let mut sample = |max, percent, networks| {
+        peers
+            .sample_unfiltered(max, percent, networks, &mut rng)
+            .unwrap()
+    };
+    let mut records = sample(None, None, Networks::ALL);
+    assert_ne!(records, peers.entries().unwrap());
+    records.sort_by_key(|record| record.number);
+    assert_eq!(records, peers.entries().unwrap());
+    assert_eq!(sample(Some(10), None, Networks::ALL).len(), 10);
+    assert_eq!(sample(Some(0), None, Networks::ALL).len(), 0);
+    assert_eq!(sample(None, Some(10), Networks::ALL).len(), all / 10);
+    assert_eq!(sample(None, None, Networks::CJDNS).len(), 0);
+}
+
+#[test]
 fn a_file_is_read_as_the_same_tables() {
     let peers = many(3000);
     let bytes = peers.to_bytes(Chain::Main).unwrap();

@@ -137,6 +137,8 @@ fn each_call_says_that_memory_ran_out() {
     assert!(each(select) > 0);
     let mut sample = || peers.get_addr(None, None, Networks::ALL, NOW, &mut rng);
     assert!(each(|| lacks(sample())) > 0);
+    let mut unfiltered = || peers.sample_unfiltered(None, None, Networks::ALL, &mut rng);
+    assert!(each(|| lacks(unfiltered())) > 0);
     assert!(each(|| lacks(peers.entries())) > 0);
     assert!(
         each(|| memory!(

@@ -1,6 +1,7 @@
 //! Tests by many calls: the slots, the order of records and the tables beside plain lists, full
 //! containers, calls that run out of memory, tables of prefixes and their asmaps beside a walk over
-//! all rows, the largest of them, and texts of records, printed and read.
+//! all rows, the largest of them, texts of records, printed and read, and the hasher of the library
+//! for C.
 #![cfg(test)]
 
 mod entries;
@@ -18,6 +19,7 @@ mod plain;
 mod random_tables;
 mod raw_texts;
 mod samples;
+mod seeds;
 mod table_texts;
 
 use entries::Tabled;

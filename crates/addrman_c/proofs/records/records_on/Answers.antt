@@ -1,9 +1,10 @@
-use Rattle.std.proofs.Common.{◌∙◌, List, length, inr, refl, subst}
+use Rattle.std.proofs.Common.{◌∙◌, List, inr, subst}
 use Rattle.peer_rec.specs.declared.rec.Rec.{Rec}
-use Rattle.addrman_c.specs.Calls.{RecordsCall}
+use Rattle.c_values.specs.Records.{RecordsPut}
 use Rattle.addrman_c.proofs.records.records_on.Goals as goal
 
-pub returns-clause-call : goal.returns-clause-call
-returns-clause-call c =
-    subst (λ (recs : List Rec). RecordsCall recs 0 c.args.out.now c.put_records.new.out (length c.items-recs.result.now))
-    (c.items-recs.ensures ∙ c.in-Ok.ensures.found) (inr (refl, inr (refl, c.put_records.ensures.told, c.put_records.ensures.rest)))
+pub returns-in-Ok-clause-call : goal.returns-in-Ok-clause-call
+returns-in-Ok-clause-call c =
+    let new = c.put_records.new in
+    inr (subst (λ (recs : List Rec). RecordsPut recs c.put_records.result c.args.out.now new.out new.length)
+    (c.items.ensures ∙ c.in-Ok.ensures.found) c.put_records.ensures.call)

@@ -19,8 +19,8 @@ loop-position-preserved g c =
       few = omega (arith, so_far.few, c.added_length-length.ensures.few);
     }
 
-pub returns : goal.returns
-returns g c = λ chain.
+pub returns-clause-exact : goal.returns-clause-exact
+returns-clause-exact g c = λ chain.
     let all = records c.index-index.result.now in
     let ended : length all ≤ c.loop-position.position =
     omega (arith, c.loop-position-test.false, c.counts-counts.ensures.total, length-map all (λ (r : Rec). r.number), ap length c.index-index.ensures.numbers) in

@@ -3,7 +3,7 @@ use Rattle.std.proofs.lemmas.List.{drop-set-lt}
 use Rattle.std.proofs.lemmas.Option.{slice_get_read}
 use Rattle.c_values.specs.Records.{IsRecord}
 use Rattle.c_values.proofs.Lists.{more, all}
-use Rattle.c_values.proofs.records.put_records.Goals as goal
+use Rattle.c_values.proofs.records.put_start.Goals as goal
 
 pub loop-i-preserved : goal.loop-i-preserved
 loop-i-preserved c =
