@@ -70,7 +70,7 @@ fn any_has(sets: &[AddrSet], addr: &NetAddr, number: u32) -> bool
 }
 
 /// Returns those whose addresses are in one of the sets.
-pub(crate) fn leads_among(
+pub fn leads_among(
     alloc: Global,
     leads: &[Lead],
     sets: &[AddrSet],

@@ -1,8 +1,8 @@
 -- What only private contracts cite: the slots of a mask, the first records of groups, classes of
--- starts, and the sides of both tables.
+-- starts, the sides of both tables, and the groups of some sets.
 use Rattle.std.specs.Int.{bit_at}
 use Rattle.std.specs.List.{flat_map}
-use Rattle.std.specs.Prelude.{ℕ, ◌*◌, ◌^◌, ◌==◌, Bool, false, List, [], ◌∷◌, length, map, ◌≡◌, ◌+◌, ◌≤◌, ◌||◌, min, sum_by, if◌then◌else◌}
+use Rattle.std.specs.Prelude.{ℕ, ◌*◌, ◌^◌, ◌==◌, Bool, false, List, [], ◌∷◌, length, map, ◌≡◌, ◌+◌, ◌≤◌, ◌||◌, min, sum_by, ⊤, tt, if◌then◌else◌}
 use Rattle.net_addr.specs.NetSet.{all}
 use Rattle.peer_rec.specs.Rec.{chance}
 use Rattle.peer_rec.specs.declared.rec.Rec.{Rec}
@@ -12,7 +12,7 @@ use Rattle.risk_sum.specs.declared.kinds.Kind.{Kind}
 use Rattle.table_laws.specs.Odds.{leading_starts}
 use Rattle.table_machine.specs.Picks.{first_factor}
 use Rattle.table_machine.specs.State.{State}
-use Rattle.placing.specs.Places.{Places}
+use Rattle.placing.specs.Places.{Places, group}
 use Rattle.table_groups.specs.Tally.{by_bytes, tally_of, value_in}
 use Rattle.table_risk.specs.Grouping.{group_by}
 use Rattle.table_risk.specs.declared.by.By.{By}
@@ -20,8 +20,13 @@ use Rattle.table_risk.specs.declared.classes.Class.{Class}
 use Rattle.table_risk.specs.declared.classes.Search.{Search}
 use Rattle.table_risk.specs.declared.rows.Row.{Row}
 use Rattle.table_risk.specs.declared.rows.Side.{Side}
+use Rattle.risk_parts.specs.Leads.{among}
 use Rattle.risk_parts.specs.Parts.{millionths, wanted_in}
+use Rattle.risk_parts.specs.declared.addr_set.AddrSet.{AddrSet}
+use Rattle.risk_parts.specs.declared.leads.Lead.{Lead}
 use Rattle.risk_parts.specs.declared.parts.TheConstants.{AHEAD}
+use Rattle.risk_tries.specs.TenBound.{ten_bound}
+use Rattle.risk_tries.specs.declared.ten.TheConstants.{TRY_LISTS}
 
 -- the slot is in the mask
 abbrev pub in_mask : ℕ → ℕ → Bool
@@ -114,3 +119,28 @@ row_in new tried g first =
       new = millionths in_new (2 ^ 64);
       tried = millionths in_tried (2 ^ 64);
     }
+
+-- ---- the groups of the records of some sets
+
+-- a group that has one
+abbrev pub group_visit : Places → Lead → List ℕ × ⊤
+group_visit places lead = (group places lead.addr, tt)
+
+abbrev pub last : ⊤ → ⊤ → ⊤
+last before now = now
+
+-- each group that has one of these records
+abbrev pub tally_among : Places → List Lead → List (List ℕ × ⊤)
+tally_among places leads = tally_of tt last (map (group_visit places) leads)
+
+-- how many of 2^64 or 2^65 picks return a peer of a group, at most
+abbrev pub both_shares : Sides → Sides → List ℕ → ℕ
+both_shares new tried g = side_share new g + side_share tried g
+
+-- which part of the lists of tries opens all outbound connections to peers of some groups, at most
+abbrev pub part_by : Sides → Sides → List (List ℕ) → ℕ
+part_by new tried groups =
+    millionths
+    (ten_bound (map (both_shares new tried) groups)
+    (if new.wanted == 0 || tried.wanted == 0 then 2 ^ 64 else 2 ^ 65) TRY_LISTS)
+    TRY_LISTS

@@ -36,14 +36,14 @@ pub struct Row {
 
 /// One table: how many starts lead to records of each chance, and how many records it has.
 #[derive(Drop)]
-struct Side<'a, H: BuildHasher> {
+pub(crate) struct Side<'a, H: BuildHasher> {
     classes: Vec<Class<'a, H>>,
-    wanted: u32,
+    pub(crate) wanted: u32,
 }
 
 /// Returns how many of 2^64 searches of a table end at records of a group, at most. Without
 /// records none do.
-fn share_in<H: BuildHasher>(side: &Side<'_, H>, group: &Group) -> u128
+pub(crate) fn share_in<H: BuildHasher>(side: &Side<'_, H>, group: &Group) -> u128
     requires { FitsSide (side_value side.now) group.now.items }
     ensures is { result ≡ side_share (side_value side.now) group.now.items }
     ensures few { result ≤ 2 ^ 64 }
@@ -113,7 +113,7 @@ fn wanted_in<H: BuildHasher>(tables: &Tables<'_, H>, in_new: bool) -> u32
 }
 
 /// Returns one table's side.
-fn side_of<'a, H: BuildHasher, G: BuildHasher, L: Ledger>(
+pub(crate) fn side_of<'a, H: BuildHasher, G: BuildHasher, L: Ledger>(
     alloc: Global,
     hasher: &'a G,
     tables: &Tables<'_, H>,
