@@ -26,7 +26,7 @@ use Rattle.table_machine.specs.Picks.{wanted_new, wanted_tried}
 use Rattle.table_machine.specs.Sound.{IsSound}
 use Rattle.table_machine.specs.State.{State}
 use Rattle.table_machine.proofs.Lists.{Contains-cases, Contains-filter, Contains-head, Contains-map, Contains-tail, none_in_nil}
-use Rattle.table_risk.specs.Inside.{Sides, both_shares, group_visit, last, part_by, side_by, side_share, tally_among}
+use Rattle.table_risk.specs.Inside.{Sides, both_shares, classes_share, group_visit, last, part_by, side_by, side_share, tally_among, whole_in}
 use Rattle.table_risk.specs.Rows.{search}
 use Rattle.table_risk.specs.Tens.{groups_among, ten_part}
 use Rattle.table_risk.specs.declared.by.By.TheVariants as by
@@ -73,7 +73,7 @@ keys_are (e ∷ es) = ap (λ (gs : List (List ℕ)). e.0.items ∷ gs) (keys_are
 -- ---- the shares
 
 share_few : (side : Sides) (g : List ℕ) → side_share side g ≤ 2 ^ 64
-share_few side g = by (side.wanted == 0) (Rattle.table_risk.specs.Inside.classes_share side.classes g)
+share_few side g = by (side.wanted == 0) (classes_share side.classes g)
   where
     by : (b : Bool) (n : ℕ) → (if b then 0 else min n (2 ^ 64)) ≤ 2 ^ 64
     by true n = omega arith
@@ -94,7 +94,7 @@ map_map h (g ∷ groups) = ap (λ (ns : List ℕ). h g.items ∷ ns) (map_map h 
 
 -- the part by the shares of the groups of a map
 pub part_is : (new tried : Sides) (groups : List (ArrayVec ℕ)) (shares : List ℕ) (whole bound part : ℕ) → shares ≡ map (λ g. both_shares new tried g.items) groups
-    → whole ≡ (if new.wanted == 0 || tried.wanted == 0 then 2 ^ 64 else 2 ^ 65) → bound ≡ ten_bound shares whole (2 ^ 62) → part ≡ millionths bound (2 ^ 62)
+    → whole ≡ whole_in new tried → bound ≡ ten_bound shares whole (2 ^ 62) → part ≡ millionths bound (2 ^ 62)
     → part ≡ part_by new tried (map (λ g. g.items) groups)
 part_is new tried groups shares whole bound part are all is made =
     made ∙ ap (λ n. millionths n (2 ^ 62)) is ∙ (λ i. millionths (ten_bound ((are ∙ map_map (both_shares new tried) groups) i) (all i) (2 ^ 62)) (2 ^ 62))

@@ -107,6 +107,10 @@ abbrev pub side_share : Sides → List ℕ → ℕ
 side_share side g =
     if side.wanted == 0 then 0 else min (classes_share side.classes g) (2 ^ 64)
 
+-- how many picks the shares of a group are parts of
+abbrev pub whole_in : Sides → Sides → ℕ
+whole_in new tried = if new.wanted == 0 || tried.wanted == 0 then 2 ^ 64 else 2 ^ 65
+
 abbrev pub row_in : Sides → Sides → List ℕ → ℕ → Row
 row_in new tried g first =
     let in_new = side_share new g in
@@ -114,8 +118,7 @@ row_in new tried g first =
     record {
       group = record { items = g };
       first = first;
-      picks = millionths (in_new + in_tried)
-          (if new.wanted == 0 || tried.wanted == 0 then 2 ^ 64 else 2 ^ 65);
+      picks = millionths (in_new + in_tried) (whole_in new tried);
       new = millionths in_new (2 ^ 64);
       tried = millionths in_tried (2 ^ 64);
     }
@@ -140,7 +143,5 @@ both_shares new tried g = side_share new g + side_share tried g
 -- which part of the lists of tries opens all outbound connections to peers of some groups, at most
 abbrev pub part_by : Sides → Sides → List (List ℕ) → ℕ
 part_by new tried groups =
-    millionths
-    (ten_bound (map (both_shares new tried) groups)
-    (if new.wanted == 0 || tried.wanted == 0 then 2 ^ 64 else 2 ^ 65) TRY_LISTS)
+    millionths (ten_bound (map (both_shares new tried) groups) (whole_in new tried) TRY_LISTS)
     TRY_LISTS

@@ -7,12 +7,12 @@ ghost use Rattle.table_risk.specs.Tens.{ten_part};
 
 use crate::classes::Search;
 use crate::leads::Known;
-use crate::rows::{Side, share_in, side_of};
+use crate::rows::{Side, share_in, side_of, whole_in};
 use crate::{By, Memory};
 use indexmap::IndexMap;
 use peer_rec::Rec;
 use placing::Placer;
-use risk_parts::{AddrSet, Lead, WHOLE, leads_among, millionths};
+use risk_parts::{AddrSet, Lead, leads_among, millionths};
 use risk_tries::{TRY_LISTS, ten_bound};
 use std::alloc::{AllocError, Global};
 use std::hash::BuildHasher;
@@ -22,10 +22,7 @@ use table_groups::{Group, Lent, Tally, put_value};
 use tables::Tables;
 
 /// Notes that a group has a record.
-fn note_group<H: BuildHasher>(
-    groups: &mut Tally<'_, (), H>,
-    group: Group,
-) -> Result<(), AllocError>
+fn note_group<H: BuildHasher>(groups: &mut Tally<'_, (), H>, group: Group) -> Result<(), AllocError>
     ensures { OnOk result (by_bytes groups.new.entries
         ≡ noted tt last (by_bytes groups.old.entries) (group.items, tt)) }
 {
@@ -93,12 +90,8 @@ fn part_of<H: BuildHasher>(
         (map (λ g. g.items) (keys groups.now))) }
 {
     let shares = shares_of(alloc, new, tried, groups)?;
-    let whole = if new.wanted == 0 || tried.wanted == 0 {
-        WHOLE
-    } else {
-        2 * WHOLE
-    };
-    Ok(millionths(ten_bound(shares.as_slice(), whole), TRY_LISTS))
+    let bound = ten_bound(shares.as_slice(), whole_in(new, tried));
+    Ok(millionths(bound, TRY_LISTS))
 }
 
 /// Returns which part of the lists of tries opens all outbound connections to peers of some sets,

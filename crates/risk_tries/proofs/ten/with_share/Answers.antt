@@ -15,5 +15,5 @@ loop-count-preserved c =
 
 pub returns : goal.returns
 returns c =
-    whole_array c.args.share c.args.least c.loop-count.more c.loop-count.count c.loop-count-test.false c.loop-count.auto.count-end
+    whole_array c.args.share c.args.least c.loop-count.more c.loop-count.count c.loop-count-test.false (c.loop-count.auto.count-end (omega arith))
     c.loop-count.invariant.long c.loop-count.invariant.taken
