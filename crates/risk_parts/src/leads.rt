@@ -58,7 +58,7 @@ impl Lead {
 }
 
 /// Returns `true` if one of the sets has the address, which this autonomous system announces.
-fn any_has(sets: &[AddrSet], addr: &NetAddr, number: u32) -> bool
+pub fn any_has(sets: &[AddrSet], addr: &NetAddr, number: u32) -> bool
     ensures { result ≡ any_by sets.now addr.now number }
 {
     for set in sets {
@@ -70,7 +70,7 @@ fn any_has(sets: &[AddrSet], addr: &NetAddr, number: u32) -> bool
 }
 
 /// Returns those whose addresses are in one of the sets.
-pub fn leads_among(alloc: Global, leads: &[Lead], sets: &[AddrSet]) -> Result<Vec<Lead>, AllocError>
+pub(crate) fn leads_among(alloc: Global, leads: &[Lead], sets: &[AddrSet]) -> Result<Vec<Lead>, AllocError>
     ensures { IfOk result (λ found. found.items ≡ among leads.now sets.now) }
 {
     let mut found = Vec::new(alloc);

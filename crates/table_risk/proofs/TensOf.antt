@@ -2,31 +2,28 @@
 use Rattle.std.proofs.Common.{◌≡◌, ℕ, ◌+◌, ◌*◌, ◌^◌, ◌≤◌, ◌<◌, min, Bool, true, false, ◌||◌, ◌==◌, ◌⊎◌, All, List, [], ◌∷◌, ◌++◌, Contains, filter, fold, get_or, length, map, take, refl, sym, ap, subst, ◌∙◌, inl, inr, arith, if◌then◌else◌}
 use Rattle.std.specs.Prelude.{bytes_eq, ⊤}
 use Rattle.std.specs.List.{list_any}
-use Rattle.std.proofs.lemmas.List.{map-append, take_more}
 use Rattle.std.proofs.lemmas.List.Elements.{All-cons, All-nil, Contains-append_left, Contains-push}
-use Rattle.std.proofs.lemmas.List.Sums.{fold-append}
 use Rattle.std.proofs.lemmas.Slice.Eq.{bytes_eq-Decides}
 use Rattle.arrayvec.specs.ArrayVec.{ArrayVec}
+use Rattle.indexmap.specs.IndexMap.{insert_entry}
 use Rattle.net_addr.specs.NetSet.{all}
 use Rattle.net_addr.specs.declared.peer.Peer.{Peer}
 use Rattle.peer_rec.specs.declared.rec.Rec.{Rec}
 use Rattle.placing.specs.Places.{Places, group}
-use Rattle.risk_parts.specs.Leads.{among, lead_of}
 use Rattle.risk_parts.specs.Parts.{HasNoTries, millionths, share_for, wanted_in}
 use Rattle.risk_parts.specs.Sets.{is_among}
 use Rattle.risk_parts.specs.declared.addr_set.AddrSet.{AddrSet}
-use Rattle.risk_parts.specs.declared.leads.Lead.{Lead}
 use Rattle.risk_parts.proofs.BoundsOf.{rounded}
 use Rattle.risk_parts.proofs.Untried.{same_bound}
 use Rattle.risk_tries.specs.TenBound.{group_share, ten_bound, whole_of}
 use Rattle.risk_tries.specs.Tries.{AreGroupsOf, all_theirs}
-use Rattle.table_groups.specs.Tally.{by_bytes, groups_of, noted, once, tally_of, with_group}
+use Rattle.table_groups.specs.Tally.{by_bytes, groups_of, noted, once, with_group}
 use Rattle.table_groups.proofs.Values.{groups-are}
 use Rattle.table_machine.specs.Picks.{wanted_new, wanted_tried}
 use Rattle.table_machine.specs.Sound.{IsSound}
 use Rattle.table_machine.specs.State.{State}
 use Rattle.table_machine.proofs.Lists.{Contains-cases, Contains-filter, Contains-head, Contains-map, Contains-tail, none_in_nil}
-use Rattle.table_risk.specs.Inside.{Sides, both_shares, classes_share, group_visit, last, part_by, side_by, side_share, tally_among, whole_in}
+use Rattle.table_risk.specs.Inside.{Sides, both_shares, classes_share, noted_among, part_by, side_by, side_share, whole_in}
 use Rattle.table_risk.specs.Rows.{search}
 use Rattle.table_risk.specs.Tens.{groups_among, ten_part}
 use Rattle.table_risk.specs.declared.by.By.TheVariants as by
@@ -35,35 +32,37 @@ use Rattle.table_risk.proofs.RowsOf as rows
 
 -- ---- the groups
 
--- one record more
-pub group_more : (places : Places) (leads : List Lead) (i : ℕ) (lead : Lead) (g : List ℕ) (now next : List (List ℕ × ⊤)) → i < length leads → lead ≡ get_or leads i lead
-    → g ≡ group places lead.addr → now ≡ tally_among places (take i leads) → next ≡ noted tt last now (g, tt) → next ≡ tally_among places (take (i + 1) leads)
-group_more places leads i lead g now next within is own so_far made =
-    let visits : List (List ℕ × ⊤) = map (group_visit places) (take i leads) in
-    let taken : take (i + 1) leads ≡ take i leads ++ lead ∷ [] = take_more leads i lead within ∙ ap (λ (l : Lead). take i leads ++ l ∷ []) (sym is) in
-    made ∙ (λ j. noted tt last (so_far j) (own j, tt))
-    ∙ sym (ap (tally_among places) taken ∙ ap (tally_of tt last) (map-append (group_visit places) (take i leads) (lead ∷ []))
-    ∙ fold-append (noted tt last) [] visits (group_visit places lead ∷ []))
+abbrev last : ⊤ → ⊤ → ⊤
+last before now = now
 
-module _ (st : State) (now : ℕ) (sets : List AddrSet) where
-  of_records : (recs : List Rec) → map (λ (v : List ℕ × ⊤). v.0) (map (group_visit st.places) (among (map (lead_of st now) recs) sets))
-      ≡ map (λ r. group st.places r.peer.addr) (filter (λ r. is_among st.places sets r.peer) recs)
-  of_records [] = refl
-  of_records (r ∷ recs) = by (is_among st.places sets r.peer) (of_records recs)
+module _ (places : Places) (sets : List AddrSet) where
+  abbrev visit : Rec → List ℕ × ⊤
+  visit r = (group places r.peer.addr, tt)
+
+  abbrev own : List Rec → List Rec
+  own recs = filter (λ r. is_among places sets r.peer) recs
+
+  folded : (recs : List Rec) (es : List (List ℕ × ⊤)) → fold (noted_among places sets) es recs ≡ fold (noted tt last) es (map visit (own recs))
+  folded [] es = refl
+  folded (r ∷ recs) es = by (is_among places sets r.peer)
     where
-      by : (b : Bool) → map (λ (v : List ℕ × ⊤). v.0) (map (group_visit st.places) (among (map (lead_of st now) recs) sets))
-          ≡ map (λ r. group st.places r.peer.addr) (filter (λ r. is_among st.places sets r.peer) recs)
-          → map (λ (v : List ℕ × ⊤). v.0) (map (group_visit st.places) (if b then lead_of st now r ∷ among (map (lead_of st now) recs) sets else among (map (lead_of st now) recs) sets))
-          ≡ map (λ r. group st.places r.peer.addr) (if b then r ∷ filter (λ r. is_among st.places sets r.peer) recs else filter (λ r. is_among st.places sets r.peer) recs)
-      by true more = ap (λ (gs : List (List ℕ)). group st.places r.peer.addr ∷ gs) more
-      by false more = more
+      by : (b : Bool) → fold (noted_among places sets) (if b then insert_entry bytes_eq es (group places r.peer.addr) tt else es) recs
+          ≡ fold (noted tt last) es (map visit (if b then r ∷ own recs else own recs))
+      by true = folded recs (noted tt last es (visit r))
+      by false = folded recs es
 
-  pub groups_are : (places : Places) (some : List Lead) (es : List (List ℕ × ⊤)) → places ≡ st.places → some ≡ among (map (lead_of st now) st.records) sets
-      → es ≡ tally_among places some → groups_of es ≡ groups_among st sets
-  groups_are places some es here are is =
-      ap (λ (t : List (List ℕ × ⊤)). groups_of t) (is ∙ (λ i. tally_among (here i) (are i)))
-      ∙ groups-are tt last (map (group_visit st.places) (among (map (lead_of st now) st.records) sets))
-      ∙ ap once (of_records st.records)
+  visit_groups : (recs : List Rec) → map (λ (v : List ℕ × ⊤). v.0) (map visit recs) ≡ map (λ r. group places r.peer.addr) recs
+  visit_groups [] = refl
+  visit_groups (r ∷ recs) = ap (λ (gs : List (List ℕ)). group places r.peer.addr ∷ gs) (visit_groups recs)
+
+  each_group : (recs : List Rec) → groups_of (fold (noted_among places sets) [] recs) ≡ once (map (λ r. group places r.peer.addr) (own recs))
+  each_group recs =
+      ap (λ (es : List (List ℕ × ⊤)). groups_of es) (folded recs []) ∙ groups-are tt last (map visit (own recs)) ∙ ap once (visit_groups (own recs))
+
+pub groups_are : (st : State) (sets : List AddrSet) (places : Places) (recs : List Rec) (es : List (List ℕ × ⊤)) → places ≡ st.places → recs ≡ st.records
+    → es ≡ fold (noted_among places sets) [] recs → groups_of es ≡ groups_among st sets
+groups_are st sets places recs es here are is =
+    ap (λ (t : List (List ℕ × ⊤)). groups_of t) (is ∙ (λ i. fold (noted_among (here i) sets) [] (are i))) ∙ each_group st.places sets st.records
 
 -- the groups of the keys of a map
 keys_are : (es : List (ArrayVec ℕ × ⊤)) → map (λ (g : ArrayVec ℕ). g.items) (map (λ (e : ArrayVec ℕ × ⊤). e.0) es) ≡ groups_of (by_bytes es)

@@ -2,7 +2,8 @@
 -- starts, the sides of both tables, and the groups of some sets.
 use Rattle.std.specs.Int.{bit_at}
 use Rattle.std.specs.List.{flat_map}
-use Rattle.std.specs.Prelude.{ℕ, ◌*◌, ◌^◌, ◌==◌, Bool, false, List, [], ◌∷◌, length, map, ◌≡◌, ◌+◌, ◌≤◌, ◌||◌, min, sum_by, ⊤, tt, if◌then◌else◌}
+use Rattle.indexmap.specs.IndexMap.{insert_entry}
+use Rattle.std.specs.Prelude.{ℕ, ◌*◌, ◌^◌, ◌==◌, Bool, false, List, [], ◌∷◌, length, map, ◌≡◌, ◌+◌, ◌≤◌, ◌||◌, min, sum_by, bytes_eq, ⊤, tt, if◌then◌else◌}
 use Rattle.net_addr.specs.NetSet.{all}
 use Rattle.peer_rec.specs.Rec.{chance}
 use Rattle.peer_rec.specs.declared.rec.Rec.{Rec}
@@ -20,10 +21,9 @@ use Rattle.table_risk.specs.declared.classes.Class.{Class}
 use Rattle.table_risk.specs.declared.classes.Search.{Search}
 use Rattle.table_risk.specs.declared.rows.Row.{Row}
 use Rattle.table_risk.specs.declared.rows.Side.{Side}
-use Rattle.risk_parts.specs.Leads.{among}
 use Rattle.risk_parts.specs.Parts.{millionths, wanted_in}
+use Rattle.risk_parts.specs.Sets.{is_among}
 use Rattle.risk_parts.specs.declared.addr_set.AddrSet.{AddrSet}
-use Rattle.risk_parts.specs.declared.leads.Lead.{Lead}
 use Rattle.risk_parts.specs.declared.parts.TheConstants.{AHEAD}
 use Rattle.risk_tries.specs.TenBound.{ten_bound}
 use Rattle.risk_tries.specs.declared.ten.TheConstants.{TRY_LISTS}
@@ -123,18 +123,13 @@ row_in new tried g first =
       tried = millionths in_tried (2 ^ 64);
     }
 
--- ---- the groups of the records of some sets
+-- ---- the groups of the peers of some sets
 
--- a group that has one
-abbrev pub group_visit : Places → Lead → List ℕ × ⊤
-group_visit places lead = (group places lead.addr, tt)
-
-abbrev pub last : ⊤ → ⊤ → ⊤
-last before now = now
-
--- each group that has one of these records
-abbrev pub tally_among : Places → List Lead → List (List ℕ × ⊤)
-tally_among places leads = tally_of tt last (map (group_visit places) leads)
+-- a record, whose group is noted if one of the sets has its peer's address
+abbrev pub noted_among : Places → List AddrSet → List (List ℕ × ⊤) → Rec → List (List ℕ × ⊤)
+noted_among places sets es r =
+    if is_among places sets r.peer then insert_entry bytes_eq es (group places r.peer.addr) tt
+    else es
 
 -- how many of 2^64 or 2^65 picks return a peer of a group, at most
 abbrev pub both_shares : Sides → Sides → List ℕ → ℕ

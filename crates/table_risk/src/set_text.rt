@@ -127,7 +127,7 @@ pub fn sets_text<L: Ledger, H: BuildHasher, G: BuildHasher>(
         sets,
         &mut out,
     )?;
-    let part = ten_part(alloc, hasher, tables, &known, sets, now, steps)?;
+    let part = ten_part(alloc, hasher, tables, sets, now, steps)?;
     put_ten_line(part, &mut out)?;
     Ok(out)
 }

@@ -1,18 +1,17 @@
-ghost use Rattle.std.specs.Prelude.{◌≡◌, ◌≤◌, ◌^◌, ℕ, List, IfOk, OnOk, map, tt};
+ghost use Rattle.std.specs.Prelude.{◌≡◌, ◌≤◌, ◌^◌, ℕ, List, [], IfOk, OnOk, fold, map};
 ghost use Rattle.indexmap.specs.IndexMap.{keys};
-ghost use Rattle.risk_parts.specs.Leads.{AreLeads};
-ghost use Rattle.table_groups.specs.Tally.{by_bytes, noted};
-ghost use Rattle.table_risk.specs.Inside.{FitsSide, both_shares, last, part_by, side_value, tally_among};
+ghost use Rattle.table_groups.specs.Tally.{by_bytes};
+ghost use Rattle.table_machine.specs.Sound.{IsSound};
+ghost use Rattle.table_risk.specs.Inside.{FitsSide, both_shares, noted_among, part_by, side_value};
 ghost use Rattle.table_risk.specs.Tens.{ten_part};
 
 use crate::classes::Search;
-use crate::leads::Known;
 use crate::rows::{Side, share_in, side_of, whole_in};
 use crate::{By, Memory};
 use indexmap::IndexMap;
 use peer_rec::Rec;
 use placing::Placer;
-use risk_parts::{AddrSet, Lead, leads_among, millionths};
+use risk_parts::{AddrSet, any_has, millionths};
 use risk_tries::{TRY_LISTS, ten_bound};
 use std::alloc::{AllocError, Global};
 use std::hash::BuildHasher;
@@ -21,27 +20,37 @@ use steps::Steps;
 use table_groups::{Group, Lent, Tally, put_value};
 use tables::Tables;
 
-/// Notes that a group has a record.
-fn note_group<H: BuildHasher>(groups: &mut Tally<'_, (), H>, group: Group) -> Result<(), AllocError>
+/// Notes the group of a record's peer, if one of the sets has its address.
+fn note_rec<H: BuildHasher>(
+    groups: &mut Tally<'_, (), H>,
+    placer: &Placer<'_>,
+    sets: &[AddrSet],
+    rec: &Rec,
+) -> Result<(), AllocError>
     ensures { OnOk result (by_bytes groups.new.entries
-        ≡ noted tt last (by_bytes groups.old.entries) (group.items, tt)) }
+        ≡ noted_among placer.now sets.now (by_bytes groups.old.entries) rec.now) }
 {
-    put_value(groups, group, ())
+    let addr = &rec.peer.addr;
+    if !any_has(sets, addr, placer.asn(addr)) {
+        return Ok(());
+    }
+    put_value(groups, placer.group(addr), ())
 }
 
-/// Finds the groups of the peers of some records, each once.
+/// Finds the groups of the peers whose addresses are in one of the sets, each once.
 fn find_groups<'a, H: BuildHasher>(
     alloc: Global,
     hasher: &'a H,
     placer: &Placer<'_>,
-    leads: &[Lead],
+    recs: &[Rec],
+    sets: &[AddrSet],
 ) -> Result<Tally<'a, (), H>, AllocError>
     ensures { IfOk result (λ groups. by_bytes groups.entries
-        ≡ tally_among placer.now leads.now) }
+        ≡ fold (noted_among placer.now sets.now) [] recs.now) }
 {
     let mut groups = IndexMap::with_hasher(alloc, Lent::of(hasher));
-    for lead in leads {
-        note_group(&mut groups, placer.group(&lead.addr))?;
+    for rec in recs {
+        note_rec(&mut groups, placer, sets, rec)?;
     }
     Ok(groups)
 }
@@ -100,18 +109,15 @@ pub(crate) fn ten_part<L: Ledger, H: BuildHasher, G: BuildHasher>(
     alloc: Global,
     hasher: &G,
     tables: &Tables<'_, H>,
-    known: &Known,
     sets: &[AddrSet],
     now: u32,
     steps: &mut Steps<L>,
 ) -> Result<u32, Memory>
-    requires { AreLeads tables.now now known.now.leads.items known.now.new.items
-        known.now.tried.items known.now.wanted }
+    requires { IsSound tables.now }
     ensures { IfOk result (λ part. part ≡ ten_part tables.now now sets.now) }
 {
     let recs = tables.recs(steps)?;
-    let some = leads_among(alloc, known.leads.as_slice(), sets)?;
-    let groups = find_groups(alloc, hasher, tables.placer(), some.as_slice())?;
+    let groups = find_groups(alloc, hasher, tables.placer(), recs.items(), sets)?;
     let in_new = Search {
         in_new: true,
         by: By::Peer,
