@@ -3,7 +3,7 @@
 use Rattle.std.specs.Int.{bit_at}
 use Rattle.std.specs.List.{flat_map}
 use Rattle.indexmap.specs.IndexMap.{insert_entry}
-use Rattle.std.specs.Prelude.{ℕ, ◌*◌, ◌^◌, ◌==◌, Bool, false, List, [], ◌∷◌, length, map, ◌≡◌, ◌+◌, ◌≤◌, ◌||◌, min, sum_by, bytes_eq, ⊤, tt, if◌then◌else◌}
+use Rattle.std.specs.Prelude.{ℕ, ◌*◌, ◌^◌, ◌==◌, Bool, false, List, [], ◌∷◌, length, map, ◌≡◌, ◌+◌, ◌≤◌, ◌||◌, min, sum_by, bytes_eq, ⊤, if◌then◌else◌}
 use Rattle.net_addr.specs.NetSet.{all}
 use Rattle.peer_rec.specs.Rec.{chance}
 use Rattle.peer_rec.specs.declared.rec.Rec.{Rec}
