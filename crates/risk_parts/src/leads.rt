@@ -70,7 +70,11 @@ pub fn any_has(sets: &[AddrSet], addr: &NetAddr, number: u32) -> bool
 }
 
 /// Returns those whose addresses are in one of the sets.
-pub(crate) fn leads_among(alloc: Global, leads: &[Lead], sets: &[AddrSet]) -> Result<Vec<Lead>, AllocError>
+pub(crate) fn leads_among(
+    alloc: Global,
+    leads: &[Lead],
+    sets: &[AddrSet],
+) -> Result<Vec<Lead>, AllocError>
     ensures { IfOk result (λ found. found.items ≡ among leads.now sets.now) }
 {
     let mut found = Vec::new(alloc);
