@@ -109,6 +109,7 @@ pub fn sets_text<L: Ledger, H: BuildHasher, G: BuildHasher>(
     ensures { IfOk result (λ text. text.items ≡ sets_text tables.now now sets.now) }
 {
     let counts = tables.counts();
+    let part = ten_part(alloc, hasher, tables, sets, now, steps)?;
     let known = known_of(alloc, tables, now, steps)?;
     let mut out = Vec::new(alloc);
     put_heading(
@@ -127,7 +128,6 @@ pub fn sets_text<L: Ledger, H: BuildHasher, G: BuildHasher>(
         sets,
         &mut out,
     )?;
-    let part = ten_part(alloc, hasher, tables, sets, now, steps)?;
     put_ten_line(part, &mut out)?;
     Ok(out)
 }
