@@ -43,7 +43,7 @@ module _ (st : State) (by : By) (now : ℕ) (g : List ℕ) (theirs : Peer → Bo
   unfolding bound_in share_of
   bound_same in_new = λ i. most_by (kinds_same in_new i) (starts_of (kinds_same in_new i) * 2 ^ 30) (2 ^ 64) 48 first_factor
 
-  share_same : (in_new : Bool) → share_for st in_new now theirs ≡ share_in st (search in_new by now) g
+  pub share_same : (in_new : Bool) → share_for st in_new now theirs ≡ share_in st (search in_new by now) g
   share_same in_new = λ i. if wanted_in st in_new == 0 then 0 else min (bound_same in_new i) (2 ^ 64)
 
   pub by_picks : (n : ℕ) → selecting_lists st false all now theirs n * 10 ^ 6
