@@ -44,7 +44,7 @@ fn fixed_text(fault: &ListingFault) -> &'static str {
             "a member is named by its slot, as 1023/63, and they come by rising slots; \
              new has 1024 buckets, tried 256, each 64 positions",
         ListingFault::Again { .. } =>
-            "the peer of this slot is in another one, which this one does not agree with",
+            "a peer is in one table, once in a bucket, and its slots say the same of it",
         _ => "",
     }
 }
