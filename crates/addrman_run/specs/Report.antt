@@ -5,12 +5,13 @@ use Rattle.anchors.specs.FaultTexts.{anchors_fault_text}
 use Rattle.ban_list.specs.FaultTexts.{ban_fault_text}
 use Rattle.grammar.specs.FaultTexts.{line_fault_text}
 use Rattle.asmap_vm.specs.FaultTexts.{code_fault_text}
+use Rattle.raw_file.specs.FaultTexts.{listing_fault_text}
 use Rattle.addrman_run.specs.FaultTexts.{peers_fault_text, tables_fault_text}
 use Rattle.addrman_run.specs.declared.status.Status.{Status}
 use Rattle.addrman_run.specs.declared.status.Status.TheVariants.{PeersRefused}
 use Rattle.addrman_run.specs.declared.status.Status.TheVariants.{Done, Usage, LogLine, AsmapRefused, TableRefused, ReadFault, WriteFault, DiskFault, LogTooLong, NoKey, Memory, LineTooLong, NoFile}
 use Rattle.addrman_run.specs.declared.status.Status.TheVariants.{TooManyRows}
-use Rattle.addrman_run.specs.declared.status.Status.TheVariants.{BansRefused, OldAsmapRefused, TooManyChanges, AnchorsRefused, NoAnchors}
+use Rattle.addrman_run.specs.declared.status.Status.TheVariants.{BansRefused, OldAsmapRefused, TooManyChanges, AnchorsRefused, NoAnchors, RawRefused}
 
 -- the exit code of the process
 abbrev pub code_of : Status → ℕ
@@ -34,6 +35,7 @@ code_of (OldAsmapRefused fault) = 18
 code_of TooManyChanges = 19
 code_of (AnchorsRefused fault) = 21
 code_of NoAnchors = 14
+code_of (RawRefused fault) = 20
 
 -- the reason, between the program's name and the line feed
 abbrev pub reason_of : Status → List ℕ
@@ -57,6 +59,7 @@ reason_of (OldAsmapRefused fault) = codes "asmap.old refused: " ++ code_fault_te
 reason_of TooManyChanges = codes "asmap.old and asmap.dat differ in more than 2000000 prefixes"
 reason_of (AnchorsRefused fault) = codes "anchors.dat refused: " ++ anchors_fault_text fault
 reason_of NoAnchors = codes "anchors.dat is missing"
+reason_of (RawRefused fault) = codes "listing refused: " ++ listing_fault_text fault
 
 abbrev pub line_of : List ℕ → List ℕ
 line_of reason = codes "addrman: " ++ reason ++ codes "\n"

@@ -1,11 +1,13 @@
 ghost use Rattle.std.specs.Prelude.{◌≡◌, ◌++◌, codes, decimal, IfOk, OnOk, OnErr};
 ghost use Rattle.grammar.specs.FaultTexts.{line_fault_text};
+ghost use Rattle.raw_file.specs.FaultTexts.{listing_fault_text};
 ghost use Rattle.addrman_run.specs.FaultTexts.{tables_fault_text};
 ghost use Rattle.addrman_run.specs.Report.{code_of, reason_of, line_of, status_text};
 
 use crate::{Memory, Status, TablesFault};
 use log_lines::LineFault;
 use net_addr::{put_number, put_text};
+use raw_file::ListingFault;
 use std::alloc::Global;
 
 /// Returns the exit code of the program for `status`.
@@ -33,6 +35,7 @@ pub fn code(status: &Status) -> u8
         Status::TooManyChanges => 19,
         Status::AnchorsRefused(_) => 21,
         Status::NoAnchors => 14,
+        Status::RawRefused(_) => 20,
     }
 }
 
@@ -84,6 +87,15 @@ fn table_refused(alloc: Global, fault: &TablesFault) -> Result<Vec<u8>, Memory>
     joined(alloc, b"prefixes.txt refused: ", fault.as_slice())
 }
 
+/// Returns the message for why a listing is refused.
+fn raw_refused(alloc: Global, fault: &ListingFault) -> Result<Vec<u8>, Memory>
+    ensures { IfOk result (λ text. text.items
+        ≡ codes "listing refused: " ++ listing_fault_text fault.now) }
+{
+    let fault = fault.text(alloc)?;
+    joined(alloc, b"listing refused: ", fault.as_slice())
+}
+
 /// Returns the reason for `status`, which goes between the program's name and the line feed.
 fn reason(alloc: Global, status: &Status) -> Result<Vec<u8>, Memory>
     ensures { IfOk result (λ text. text.items ≡ reason_of status.now) }
@@ -112,6 +124,7 @@ fn reason(alloc: Global, status: &Status) -> Result<Vec<u8>, Memory>
         ),
         Status::AnchorsRefused(fault) => joined(alloc, b"anchors.dat refused: ", fault.word()),
         Status::NoAnchors => owned(alloc, b"anchors.dat is missing"),
+        Status::RawRefused(fault) => raw_refused(alloc, fault),
     }
 }
 

@@ -8,6 +8,7 @@ use ban_list::BanFault;
 use host_io::Name;
 use log_lines::LineFault;
 use log_run::LogEnd;
+use raw_file::ListingFault;
 
 /// How a run of the program ended.
 #[derive(Clone, Copy, Debug, PartialEq, Eq)]
@@ -57,6 +58,8 @@ pub enum Status {
     /// There is no anchors.dat. `run` never returns this: the folder has the file in the place of
     /// peers.dat, and who puts it there knows that it is missing.
     NoAnchors,
+    /// The listing is too large, or no text of the slots of both tables, or a peer is there again.
+    RawRefused(ListingFault),
 }
 
 /// Returns the status of a command that carries out the lines of the log, by the end of its run
