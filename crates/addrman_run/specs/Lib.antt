@@ -22,6 +22,8 @@ pub mod Compile
 pub mod Bans
 pub mod Show
 pub mod Anchors
+pub mod Listing
+pub mod Views
 pub mod Picture
 pub mod Risk
 pub mod RiskLines
