@@ -160,11 +160,16 @@ abbrev pub IsFileOptions : (List (List ℕ) → Chain → Type 0) → List (List
 IsFileOptions IsChosen options kind =
     (rest : List (List ℕ)) × HasRule kind.rule rest options × IsChosen rest kind.chain
 
--- the arguments say where the tables come from: a file, or with `--raw -` a listing
+-- the arguments begin with `--raw -`, which has a listing read in the place of a file; the others
+-- are the rest
+abbrev pub IsRaw : List (List ℕ) → List (List ℕ) → Type 0
+IsRaw rest options = Begins (codes "--raw") (codes "-") rest options
+
+-- the arguments say where the tables come from: a file, or a listing
 abbrev pub IsTables : (List (List ℕ) → Chain → Type 0) → List (List ℕ) → TablesFrom → Type 0
 IsTables IsChosen options (from.File kind) = IsFileOptions IsChosen options kind
 IsTables IsChosen options (from.Listing chain) =
-    (rest : List (List ℕ)) × Begins (codes "--raw") (codes "-") rest options × IsChosen rest chain
+    (rest : List (List ℕ)) × IsRaw rest options × IsChosen rest chain
 
 -- standard input has a listing, or the names of sets, and not both
 abbrev pub HasOneInput : Grouping → TablesFrom → Type 0

@@ -11,7 +11,7 @@ use Rattle.names.specs.Text.{IsTextOf}
 use Rattle.net_addr.specs.Address.{Address as NetAddress}
 use Rattle.net_addr.specs.declared.peer.Peer.{Peer}
 use Rattle.peers_file.specs.declared.chain.Chain.{Chain}
-use Rattle.arguments.specs.Options.{HasBanRule, IsAfterAnchors, IsAfterColouring, IsFileOptions, IsListingOptions, IsNet, IsOpeningOptions, IsPeersOption, IsRiskOptions, IsTables}
+use Rattle.arguments.specs.Options.{HasBanRule, HasOneInput, IsAfterAnchors, IsAfterColouring, IsFileOptions, IsListingOptions, IsNet, IsOpeningOptions, IsPeersOption, IsRiskOptions, IsTables}
 use Rattle.arguments.specs.declared.colours.Colours.{Colours}
 use Rattle.arguments.specs.declared.colours.Colours.TheVariants as colours
 use Rattle.arguments.specs.declared.file_kind.FileKind.{FileKind}
@@ -270,12 +270,13 @@ AreProperSets [] = ⊤
 AreProperSets (None ∷ sets) = AreProperSets sets
 AreProperSets (Some set ∷ sets) = IsProperSet set × AreProperSets sets
 
--- the subnet of a request, if it has one, is proper, and so are the sets of a picture; a generated
--- log is within its limit
+-- the subnet of a request, if it has one, is proper, and so are the sets of a picture; `risk` takes
+-- one thing from standard input at most; a generated log is within its limit
 abbrev pub IsProperRequest : Request → Type 0
 IsProperRequest (Ban rule subnet now until) = IsProper subnet
 IsProperRequest (Unban rule subnet) = IsProper subnet
 IsProperRequest (Gen start lines) = lines ≤ MAX_LINES
 IsProperRequest (Trial start lines) = lines ≤ MAX_LINES
 IsProperRequest (Picture (colours.Marks marks) from) = AreProperSets marks.sets
+IsProperRequest (Risk by from) = HasOneInput by from
 IsProperRequest other = ⊤

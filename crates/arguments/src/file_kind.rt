@@ -85,9 +85,12 @@ pub(crate) fn read_keyed_kind(words: &[String]) -> Option<([u8; 32], FileKind)>
         IsFileOptions (IsOpeningOptions (Some o.0)) (map string_bytes words.now) o.1) }
     ensures none { IfNone result (HasNoValues Keyed (map string_bytes words.now)) }
 {
-    match read_opening_kind(words) {
-        Some((Some(key), kind)) => Some((key, kind)),
-        _ => None,
+    let Some((key, kind)) = read_opening_kind(words) else {
+        return None;
+    };
+    match key {
+        Some(key) => Some((key, kind)),
+        None => None,
     }
 }
 

@@ -1,7 +1,9 @@
-ghost use Rattle.std.specs.Prelude.{◌≡◌, ℕ, List, ◌∷◌, codes, map, string_bytes, IfSome, IfNone};
-ghost use Rattle.arguments.specs.Inside.{Begins};
-ghost use Rattle.arguments.specs.Options.{IsAfterColouring, IsNet, IsRiskOptions, IsTables};
+ghost use Rattle.std.specs.Prelude.{◌≡◌, ℕ, List, false, map, string_bytes, IfSome, IfNone, IsTrue};
+ghost use Rattle.arguments.specs.Options.{HasOneInput, IsAfterColouring, IsNet, IsRaw, IsRiskOptions, IsTables};
 ghost use Rattle.arguments.specs.Table.{Coloured, Grouped, HasNoValues, Tables};
+ghost use Rattle.arguments.specs.declared.grouping.Grouping.TheVariants.{Sets};
+ghost use Rattle.arguments.specs.declared.tables_from.TablesFrom.TheVariants as from;
+ghost use Rattle.peers_file.specs.declared.chain.Chain.{Chain};
 
 use crate::colours::read_colours;
 use crate::file_kind::{read_colours_kind, read_file_kind, read_grouping_kind};
@@ -21,10 +23,10 @@ pub enum TablesFrom {
 
 /// Returns the arguments after `--raw -`, if they begin with it.
 pub(crate) fn after_raw(words: &[String]) -> Option<&[String]>
-    ensures found { IfSome result (λ rest. Begins (codes "--raw") (codes "-")
-        (map string_bytes rest.now) (map string_bytes words.now)) }
+    ensures found { IfSome result (λ rest.
+        IsRaw (map string_bytes rest.now) (map string_bytes words.now)) }
     ensures none { IfNone result ((rest : List (List ℕ)) →
-        ¬ Begins (codes "--raw") (codes "-") rest (map string_bytes words.now)) }
+        ¬ IsRaw rest (map string_bytes words.now)) }
 {
     let Some((value, rest)) = cut_option(words, b"--raw") else {
         return None;
@@ -72,6 +74,19 @@ pub(crate) fn read_picture(words: &[String]) -> Option<(Colours, TablesFrom)>
     }
 }
 
+/// Returns `true` if the groups are named in standard input.
+fn reads_names(by: Grouping) -> bool
+    ensures yes { IsTrue result → by ≡ Sets }
+    ensures no_other { result ≡ false → (chain : Chain) → HasOneInput by (from.Listing chain) }
+{
+    match by {
+        Grouping::Sets => true,
+        Grouping::Source => false,
+        Grouping::Peer => false,
+        Grouping::Network => false,
+    }
+}
+
 /// Reads the arguments after `risk`: `--raw -` or `--core` or none of them, and after it what makes
 /// records one group, and the arguments that choose a chain. Standard input has not both a listing
 /// and the lines of `risk -`.
@@ -80,11 +95,13 @@ pub(crate) fn read_risk(words: &[String]) -> Option<(Grouping, TablesFrom)>
     ensures none { IfNone result (HasNoValues Grouped (map string_bytes words.now)) }
 {
     if let Some(rest) = after_raw(words) {
-        return match read_after_grouping(rest) {
-            Some((Grouping::Sets, _)) => None,
-            Some((by, chain)) => Some((by, TablesFrom::Listing { chain })),
-            None => None,
+        let Some((by, chain)) = read_after_grouping(rest) else {
+            return None;
         };
+        if reads_names(by) {
+            return None;
+        }
+        return Some((by, TablesFrom::Listing { chain }));
     }
     match read_grouping_kind(words) {
         Some((by, kind)) => Some((by, TablesFrom::File { kind })),
