@@ -27,6 +27,7 @@ use Rattle.raw_read.specs.declared.read.TheConstants as raw
 use Rattle.addrman_run.specs.Bans.{IsListIn, RefusesBans, Change}
 use Rattle.addrman_run.specs.Diff.{AsksRecords, RefusesRecords, ReportsDiff}
 use Rattle.addrman_run.specs.Compile.{IsCompiled, IsInPlace, compile_text}
+use Rattle.addrman_run.specs.FromRaw.{from_raw_text}
 use Rattle.addrman_run.specs.InFolder.{IsFileIn, IsAbsent, IsTooLarge}
 use Rattle.addrman_run.specs.Listing.{ReportsListing}
 use Rattle.addrman_run.specs.Tables.{RefusesTable}
@@ -36,6 +37,7 @@ use Rattle.addrman_run.specs.declared.input.Input.TheVariants as input
 use Rattle.addrman_run.specs.declared.tables_fault.TablesFault.{TablesFault}
 use Rattle.addrman_run.specs.declared.tables_fault.TablesFault.TheVariants.{Rows}
 use Rattle.addrman_run.specs.declared.peers_fault.PeersFault.TheVariants.{Duplicate, File}
+use Rattle.addrman_run.specs.Asmaps.{IsMapIn}
 use Rattle.addrman_run.specs.Opening.{ReportsTables, places_of, tables_of}
 use Rattle.log_run.specs.Run.{Run}
 use Rattle.log_run.specs.declared.end.LogEnd.{LogEnd}
@@ -47,6 +49,14 @@ use Rattle.session.specs.State.{LineStep}
 use Rattle.sha2.specs.Sha256.{sha256}
 use Rattle.peer_rec.specs.Snapshot.{Snapshot}
 use Rattle.peers_file.specs.Layout.{IsFile, HasFileFault}
+use Rattle.peers_file.specs.Texts.{file_text}
+use Rattle.placing.specs.Places.{sum_by}
+use Rattle.placing.specs.declared.sum.SumRule.{SumRule}
+use Rattle.raw_file.specs.Faults.{HasListingFault, IsListing}
+use Rattle.raw_file.specs.Input.{IsLong}
+use Rattle.raw_file.specs.declared.fault.ListingFault.TheVariants as listing
+use Rattle.raw_read.specs.declared.fault.RawFault.TheVariants as raw
+use Rattle.raw_read.specs.declared.read.TheConstants as raw_read
 use Rattle.peers_file.specs.declared.chain.Chain.{Chain}
 use Rattle.arguments.specs.declared.file_kind.FileKind.{FileKind}
 use Rattle.table_machine.specs.State.{State, empty_state}
@@ -266,3 +276,27 @@ HasReplies old lines new bytes sum =
     (text : List ℕ) × (ended : List Ended)
     × Run HistoryStep (fresh old) lines text (record { now = new; ended = ended })
     × (bytes ≡ length text) × (sum ≡ sha256 text)
+
+-- the checksum of the folder's asmap, by a rule
+abbrev pub IsSumIn : SumRule → Option Past → List ℕ → Type 0
+IsSumIn rule past sum = (map : Option Asmap) × IsMapIn past map × (sum ≡ sum_by rule map)
+
+-- Why the text of a listing is not read, by the status. HasCause says why reading fails.
+abbrev pub IsNoInput : Option (List ℕ) → Option (List ℕ) → Status → Type 0
+IsNoInput before after (RawRefused why) =
+    (why ≡ listing.Text raw.TooLarge) × IsLong raw_read.MAX_TEXT before after
+IsNoInput before after ReadFault = ⊤
+IsNoInput before after Memory = ⊤
+IsNoInput before after other = ⊥
+
+-- the file of a listing, and the line about it
+abbrev pub IsListedFile : List ℕ → List ℕ → Chain → List ℕ → List ℕ → List ℕ → Type 0
+IsListedFile key sum chain text file line =
+    (snap : Snapshot) × IsListing key sum text snap × (file ≡ file_text chain snap)
+    × (line ≡ from_raw_text snap file)
+
+-- why the text of a listing gives no file
+abbrev pub IsNotListed : List ℕ → Status → Type 0
+IsNotListed text (RawRefused why) = (why ≢ listing.Memory) × HasListingFault text why
+IsNotListed text Memory = ⊤
+IsNotListed text other = ⊥

@@ -20,6 +20,7 @@ pub mod Decompile
 pub mod Diff
 pub mod Compile
 pub mod Bans
+pub mod FromRaw
 pub mod Show
 pub mod Anchors
 pub mod Listing

@@ -20,6 +20,7 @@ mod compile;
 mod decompile;
 mod diff;
 mod file_line;
+mod from_raw;
 mod generate;
 mod group_changes;
 mod help;
