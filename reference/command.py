@@ -10,6 +10,7 @@ import help_texts
 import node_json
 import peers_file
 import prefixes
+import raw_rows
 import risk
 from addresses import Address, Peer, address_text, class_of, read_peer, routable
 from asmap import MAXIMUM_BYTES as MAXIMUM_ASMAP
@@ -27,23 +28,27 @@ from tables import Tables
 from text import MASK, Fault, read_digits, read_number
 
 MAXIMUM_GENERATED_LINES = 100_000
-COMMANDS = "replay opener limit show picture raw info groups risk compile decompile diff check lookup address ban unban banned bans gen trial help version"
+COMMANDS = "replay opener limit show picture raw info groups risk from-raw compile decompile diff check lookup address ban unban banned bans gen trial help version"
 IN_PLACE = {b"--help": b"help", b"-h": b"help", b"--version": b"version"}
 CHAIN = ("--net", "--magic")
-OPTIONS = {"replay": ("--key", *CHAIN), "opener": ("--key", *CHAIN), "raw": CHAIN,
-           "info": CHAIN, "groups": CHAIN}
+OPTIONS = {"replay": ("--key", *CHAIN), "opener": ("--key", *CHAIN), "from-raw": ("--key", *CHAIN),
+           "raw": CHAIN}
 GROUPINGS = ("source", "peer", "network", "-")
 COLOURINGS = ("network", "source", "group", "age")
 NO_KEY = b"--no-key"
 ANCHORS = b"--anchors"
+MARK = b"--mark"
+MAXIMUM_MARKS = 6
 CORE = b"--core"
 BAN_COMMANDS = ("ban", "unban", "banned", "bans")
 
 
 class FileKind(NamedTuple):
-    """Which file of peers is meant: the first bytes of its chain's files, and whether its checksum of the asmap is Bitcoin Core's."""
+    """Which file of peers is meant: the first bytes of its chain's files, and whether its checksum of the asmap is Bitcoin Core's. Or a
+    listing is meant, which standard input has."""
     start: bytes
     core: bool
+    listed: bool = False
 
 
 def usage(value=None):
@@ -121,27 +126,65 @@ def peers_option(arguments: list[bytes]) -> bytes | None:
     return chain_option(arguments[1:])
 
 
+def without_raw(arguments: list[bytes]) -> tuple[list[bytes], bool]:
+    """The arguments after `--raw -`, and whether they begin with it."""
+    for own in ([b"--raw=-"], [b"--raw", b"-"]):
+        if arguments[:len(own)] == own:
+            return arguments[len(own):], True
+    return arguments, False
+
+
+def source_options(arguments: list[bytes]) -> tuple[list[bytes], bool, bool]:
+    """The arguments after `--core` or `--raw -`, and whether they begin with the one and with the other."""
+    arguments, listed = without_raw(arguments)
+    if listed:
+        return arguments, False, True
+    return *without_core(arguments), False
+
+
+def tables_options(arguments: list[bytes]) -> FileKind:
+    """Where the tables come from, by the arguments of `info` and `groups`."""
+    arguments, core, listed = source_options(arguments)
+    return FileKind(chain_option(arguments), core, listed)
+
+
 def grouping_options(arguments: list[bytes]) -> tuple[str, FileKind]:
-    """What makes records one group, and the file of peers, by the arguments of `risk`."""
-    arguments, core = without_core(arguments)
+    """What makes records one group, and where the tables come from, by the arguments of `risk`."""
+    arguments, core, listed = source_options(arguments)
     by = usage(next((own for own in GROUPINGS if arguments[:1] == [own.encode()]), None))
-    return by, FileKind(chain_option(arguments[1:]), core)
+    if by == "-" and listed:
+        usage()
+    return by, FileKind(chain_option(arguments[1:]), core, listed)
 
 
-def colouring_options(arguments: list[bytes]) -> tuple[str | None, str, FileKind]:
-    """What the colours go by, if `--by` says it, the name of the chain, and the file of peers, by the
+def marks_in(texts: list[bytes]) -> list:
+    """The sets after `--mark`, six at most."""
+    if not 1 <= len(texts) <= MAXIMUM_MARKS:
+        usage()
+    try:
+        return [usage(risk.read_set(text)) for text in texts]
+    except Fault:
+        return usage()
+
+
+def colouring_options(arguments: list[bytes]) -> tuple[str | None, list, str, FileKind]:
+    """What the colours go by, if `--by` says it, the sets after `--mark`, the name of the chain, and where the tables come from, by the
     arguments of `picture`."""
-    arguments, core = without_core(arguments)
-    by = None
+    arguments, core, listed = source_options(arguments)
+    by, marks = None, []
     if arguments and arguments[0].partition(b"=")[0] == b"--by":
         size = 1 if b"=" in arguments[0] else 2
         value = read_options(arguments[:size], ("--by",))["--by"]
         by = usage(next((own for own in COLOURINGS if value == own.encode()), None))
         arguments = arguments[size:]
+    elif MARK in arguments:
+        at = arguments.index(MARK)
+        marks = marks_in(arguments[at + 1:])
+        arguments = arguments[:at]
     options = read_options(arguments, CHAIN)
     _, start = key_and_chain(options)
     name = "of other first bytes" if "--magic" in options else options.get("--net", b"main").decode()
-    return by, name, FileKind(start, core)
+    return by, marks, name, FileKind(start, core, listed)
 
 
 def sum_said(file: peers_file.PeersFile, asmap: Asmap, core: bool) -> str:
@@ -229,7 +272,7 @@ class Run:
         known = {name.encode(): name for name in COMMANDS.split()}
         word = arguments[0] if arguments else b""
         name = usage(known.get(IN_PLACE.get(word, word)))
-        method = getattr(self, name)
+        method = getattr(self, name.replace("-", "_"))
         if name == "help":
             self.help(*[usage(known.get(argument)) for argument in arguments[1:]])
             return
@@ -247,6 +290,9 @@ class Run:
             return
         if name == "risk":
             self.risk(*grouping_options(arguments[1:]))
+            return
+        if name in ("info", "groups"):
+            method(tables_options(arguments[1:]))
             return
         if name in OPTIONS:
             options, core = without_core(arguments[1:])
@@ -373,9 +419,24 @@ class Run:
             raise Stop(11, "no peers.dat and no key")
         return Tables(key, asmap, kind.core)
 
+    def listing(self) -> dict:
+        """The slots of the listing that standard input has."""
+        data = b""
+        while len(data) <= raw_rows.MAXIMUM_BYTES:
+            piece = self.read()
+            if not piece:
+                break
+            data += piece
+        return raw_rows.read_raw(data)
+
     def saved_tables(self, kind: FileKind) -> Tables:
-        """The tables of the folder's file of peers."""
+        """The tables of the folder's file of peers, or of a listing."""
         asmap = self.asmap() or NO_ASMAP
+        if kind.listed:
+            try:
+                return raw_rows.tables_of(self.listing(), asmap)
+            except Fault as fault:
+                raise Stop(20, f"listing refused: {fault}")
         return self.restored(self.needed(self.peers(kind.start), "peers.dat"), asmap, kind.core)
 
     def restored(self, file: peers_file.PeersFile, asmap: Asmap, core: bool) -> Tables:
@@ -399,16 +460,16 @@ class Run:
         for line in anchors.shown(self.needed(found, "anchors.dat")):
             self.print(line)
 
-    def picture(self, by: str | None, chain: str, kind: FileKind):
+    def picture(self, by: str | None, marks: list, chain: str, kind: FileKind):
         self.print(picture(self.saved_tables(kind), by, chain).removesuffix("\n"))
 
     def raw(self, _key: None, kind: FileKind):
         self.print(node_json.raw(self.saved_tables(kind)))
 
-    def info(self, _key: None, kind: FileKind):
+    def info(self, kind: FileKind):
         self.print(node_json.info(self.saved_tables(kind)))
 
-    def groups(self, _key: None, kind: FileKind):
+    def groups(self, kind: FileKind):
         self.print(node_json.groups(self.saved_tables(kind)))
 
     def risk(self, by: str, kind: FileKind):
@@ -425,6 +486,18 @@ class Run:
             if own is not None:
                 sets.append(own)
         self.print(risk.sets_risk(tables, sets))
+
+    def from_raw(self, key: bytes | None, kind: FileKind):
+        if key is None:
+            usage()
+        asmap_sum = peers_file.asmap_sum_of(self.asmap() or NO_ASMAP, kind.core)
+        try:
+            file = raw_rows.file_of(self.listing(), key, asmap_sum)
+        except Fault as fault:
+            raise Stop(20, f"listing refused: {fault}")
+        data = peers_file.written(file, kind.start)
+        self.put("peers.tmp", "peers.dat", data)
+        self.print(f"new {len(file.new)} tried {len(file.tried)} peers.dat {len(data)} bytes")
 
     def compile(self):
         rows = self.load("prefixes.txt", prefixes.MAXIMUM_BYTES, 6, prefixes.read_rows)

@@ -5,10 +5,12 @@ import os
 from folder import Stop
 from text import read_digits
 
-TAKE_CORE = "replay opener show picture raw info groups risk diff ban unban banned bans".split()
+TAKE_CORE = "replay opener show picture raw info groups risk from-raw diff ban unban banned bans".split()
+TAKE_RAW = "picture info groups risk".split()
+TAKE_KEY_FILE = "replay opener from-raw".split()
 # The options that name a file: in whose place it is read, and the commands that take the option.
 OTHER_FILES = {"--peers": ("peers.dat", "show picture raw info groups risk diff".split()),
-               "--asmap": ("asmap.dat", "picture raw info groups risk diff check lookup decompile address".split()),
+               "--asmap": ("asmap.dat", "picture raw info groups risk from-raw diff check lookup decompile address".split()),
                "--bans": ("banlist.json", "banned bans".split()),
                "--anchors": ("anchors.dat", ["show"])}
 # The options of a command that may lack their file.
@@ -56,6 +58,15 @@ def with_key(words: list[str]) -> list[str]:
     return found
 
 
+def with_raw_first(words: list[str]) -> tuple[list[str], bool]:
+    """Arguments with `--raw -` as the first ones, if it is among them, and whether it is."""
+    for at, word in enumerate(words):
+        size = 1 if word == "--raw=-" else 2 if words[at:at + 2] == ["--raw", "-"] else 0
+        if size:
+            return [*words[at:at + size], *words[:at], *words[at + size:]], True
+    return words, False
+
+
 def without_files(command: str, words: list[str], paths: dict[str, str]) -> list[str]:
     """Arguments without the options that name a file; their paths go to `paths`. An option that may lack its file stays, `--anchors` as the
     first one."""
@@ -93,9 +104,14 @@ def plain_words(arguments: list[str], paths: dict[str, str]) -> list[str]:
     if command in TAKE_CORE and "--core" in rest and not asks_anchors:
         at = rest.index("--core")
         rest = ["--core", *rest[:at], *rest[at + 1:]]
-    if command in ("replay", "opener"):
-        return [command, *with_key(rest)]
+    has_raw = False
+    if command in TAKE_RAW:
+        rest, has_raw = with_raw_first(rest)
+    if command in TAKE_KEY_FILE:
+        rest = with_key(rest)
     words = without_files(command, rest, paths)
+    if has_raw and "peers.dat" in paths:
+        words.append(NO_ARGUMENT)
     if asks_anchors and "--anchors" in words:
         words.remove("--anchors")
         words.insert(0, "--anchors")

@@ -16,8 +16,8 @@ def plain(literal: str) -> str:
 
 def constants(path: Path, form: str) -> list[tuple[str, list[str]]]:
     """The constants of this type, each with its texts, in order."""
-    found = re.findall(rf"(?s)const ([A-Z]+): {re.escape(form)} =(.*?[\")]);\n", path.read_text())
-    return [(name.lower(), [plain(text) for text in re.findall(f"(?s){LITERAL}", value)])
+    found = re.findall(rf"(?s)const ([A-Z_]+): {re.escape(form)} =(.*?[\")]);\n", path.read_text())
+    return [(name.lower().replace("_", "-"), [plain(text) for text in re.findall(f"(?s){LITERAL}", value)])
             for name, value in found]
 
 

@@ -3,10 +3,11 @@
 import json
 
 from addresses import IPV6, Address, Peer, from_sixteen, read_ipv6
+from asmap import Asmap
 from names import read_name
 from peers_file import PeersFile
 from places import NEW_BUCKETS
-from tables import Record
+from tables import Record, Tables
 from text import Fault, read_number
 
 MAXIMUM_BYTES = 67_108_864
@@ -149,3 +150,20 @@ def file_of(rows: dict[str, list[tuple[int, int, Record]]], key: bytes, asmap_su
             raise Fault(f"tried/{bucket}/{position}: again")
         known[record.peer] = -1
     return PeersFile(key, new, [record for _, _, record in rows["tried"]], buckets, asmap_sum)
+
+
+def tables_of(rows: dict[str, list[tuple[int, int, Record]]], asmap: Asmap) -> Tables:
+    """The tables that a listing names, with its records in its slots: no key counts."""
+    tables = Tables(bytes(32), asmap)
+    for bucket, position, record in rows["new"]:
+        known = tables.find(record.peer)
+        if known is None:
+            tables.append(record)
+            known = record
+        known.buckets.add(bucket)
+        tables.new.setdefault(bucket, {})[position] = known.number
+    for bucket, position, record in rows["tried"]:
+        record.tried = True
+        tables.append(record)
+        tables.tried.setdefault(bucket, {})[position] = record.number
+    return tables

@@ -34,6 +34,7 @@ use Rattle.addrman_run.specs.Opening.{ReportsOpening, ReportsTables}
 use Rattle.addrman_run.specs.Replay.{Replayed}
 use Rattle.addrman_run.specs.Show.{ReportsPeers}
 use Rattle.addrman_run.specs.Tables.{ReportsTable}
+use Rattle.addrman_run.specs.Views.{ReportsView}
 use Rattle.arguments.specs.declared.request.Request.{Request}
 use Rattle.arguments.specs.declared.request.Request.TheVariants.{Show, Anchors, Picture, Raw, Info, Groups, Risk}
 use Rattle.arguments.specs.declared.request.Request.TheVariants.{Replay, Opener, Compile, Check, Lookup, LookupLines, Address, AddressLines}
@@ -114,12 +115,12 @@ NothingIsWrong AddressLines at =
     IsGoodLog IsAddressLine at.left × NoRefusal (ReportsAsmap at.past)
 NothingIsWrong (Show keyed kind) at = IsUsable name.Peers (ReportsPeers kind.chain) at.past
 NothingIsWrong (Anchors chain) at = IsUsable name.Peers (ReportsAnchors chain) at.past
-NothingIsWrong (Picture by kind) at = NoRefusal (ReportsTables kind.chain at.past)
+NothingIsWrong (Picture colours from) at = NoRefusal (ReportsView from at.past)
 NothingIsWrong (Raw kind) at = NoRefusal (ReportsTables kind.chain at.past)
-NothingIsWrong (Info kind) at = NoRefusal (ReportsTables kind.chain at.past)
-NothingIsWrong (Groups kind) at = NoRefusal (ReportsTables kind.chain at.past)
-NothingIsWrong (Risk by kind) at =
-    NoRiskFault by at.left × NoRefusal (ReportsTables kind.chain at.past)
+NothingIsWrong (Info from) at = NoRefusal (ReportsView from at.past)
+NothingIsWrong (Groups from) at = NoRefusal (ReportsView from at.past)
+NothingIsWrong (Risk by from) at =
+    NoRiskFault by at.left × NoRefusal (ReportsView from at.past)
 NothingIsWrong (Ban rule subnet now until) at = NoRefusal (ReportsBans rule at.past)
 NothingIsWrong (Unban rule subnet) at = NoRefusal (ReportsBans rule at.past)
 NothingIsWrong (Banned rule peer now) at = NoRefusal (ReportsBans rule at.past)

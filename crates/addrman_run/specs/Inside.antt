@@ -20,11 +20,16 @@ use Rattle.anchors.specs.declared.read.TheConstants as anchors
 use Rattle.ban_list.specs.declared.fault.BanFault.TheVariants as ban
 use Rattle.ban_list.specs.declared.read_file.TheConstants as bans
 use Rattle.ban_list.specs.declared.rule.BanRule.{BanRule}
+use Rattle.raw_file.specs.declared.fault.ListingFault.TheVariants.{Text}
+use Rattle.raw_read.specs.Raw.{HasRawFault}
+use Rattle.raw_read.specs.declared.fault.RawFault.TheVariants as raw_fault
+use Rattle.raw_read.specs.declared.read.TheConstants as raw
 use Rattle.addrman_run.specs.Bans.{IsListIn, RefusesBans, Change}
 use Rattle.addrman_run.specs.Diff.{AsksRecords, RefusesRecords, ReportsDiff}
 use Rattle.addrman_run.specs.Compile.{IsCompiled, IsInPlace, compile_text}
 use Rattle.addrman_run.specs.FromRaw.{from_raw_text}
 use Rattle.addrman_run.specs.InFolder.{IsFileIn, IsAbsent, IsTooLarge}
+use Rattle.addrman_run.specs.Listing.{ReportsListing}
 use Rattle.addrman_run.specs.Tables.{RefusesTable}
 use Rattle.prefix_table.specs.declared.read.TheConstants.{MAX_TEXT}
 use Rattle.addrman_run.specs.declared.input.Input.{Input}
@@ -68,6 +73,7 @@ name_of input.Prefixes = name.Prefixes
 name_of input.Peers = name.Peers
 name_of input.Bans = name.Bans
 name_of input.Anchors = name.Peers
+name_of input.Listing = name.Peers
 
 -- the maximum size of it in bytes
 abbrev pub max_of : Input → ℕ
@@ -77,6 +83,7 @@ max_of input.Prefixes = MAX_TEXT
 max_of input.Peers = MAX_FILE
 max_of input.Bans = bans.MAX_FILE
 max_of input.Anchors = anchors.MAX_FILE
+max_of input.Listing = raw.MAX_TEXT
 
 -- the status for a file of more bytes
 abbrev pub too_large_of : Input → ℕ → Status
@@ -86,6 +93,7 @@ too_large_of input.Prefixes size = TableRefused (Rows (table.TooLarge size))
 too_large_of input.Peers size = PeersRefused (File (peers.TooLarge size))
 too_large_of input.Bans size = BansRefused (ban.TooLarge size)
 too_large_of input.Anchors size = AnchorsRefused (anchors_fault.TooLarge size)
+too_large_of input.Listing size = RawRefused (Text raw_fault.TooLarge)
 
 -- the file has these bytes, within its limit
 abbrev pub IsLoaded : Input → Option Past → List ℕ → Type 0
@@ -139,6 +147,18 @@ abbrev pub IsNoTables : Chain → Option Past → Status → Type 0
 IsNoTables chain past DiskFault = ⊤
 IsNoTables chain past Memory = ⊤
 IsNoTables chain past other = ReportsTables chain past other
+
+-- why the bytes of a listing are refused
+abbrev pub IsNoRaw : List ℕ → Status → Type 0
+IsNoRaw bytes (RawRefused (Text fault)) = (fault ≢ raw_fault.Memory) × HasRawFault bytes fault
+IsNoRaw bytes Memory = ⊤
+IsNoRaw bytes other = ⊥
+
+-- Why there is no view of a listing, by the status.
+abbrev pub IsNoListing : Option Past → Status → Type 0
+IsNoListing past DiskFault = ⊤
+IsNoListing past Memory = ⊤
+IsNoListing past other = ReportsListing past other
 
 -- why no tables are opened, by the bytes of the file
 abbrev pub IsNotOpened : Option (List ℕ) → Chain → Option (List ℕ) → Status → Type 0

@@ -23,6 +23,8 @@ pub mod Bans
 pub mod FromRaw
 pub mod Show
 pub mod Anchors
+pub mod Listing
+pub mod Views
 pub mod Picture
 pub mod Risk
 pub mod RiskLines

@@ -29,6 +29,7 @@ mod law;
 mod learned;
 mod limit;
 mod list_anchors;
+mod listing;
 mod lookup;
 mod lookup_lines;
 mod opener;
@@ -47,6 +48,7 @@ mod tables_json;
 mod top;
 mod trial;
 mod trial_line;
+mod view_text;
 
 pub use law::{changes_are_counted_last, folders_open_once, times_are_numbers};
 pub use learned::{Learned, SumFit};

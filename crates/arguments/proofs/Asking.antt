@@ -1,6 +1,6 @@
 -- Arguments ask for one request at most.
 use Rattle.std.proofs.Common.{◌≡◌, ◌≢◌, ◌≤◌, ℕ, Bool, true, List, [], ◌∷◌, ◌++◌, codes, length, drop, get_or, decimal, find, Option, Some, None, refl, sym, ap, subst, inl, inr, ◌∙◌, arith}
-use Rattle.std.specs.Prelude.{◌↔◌, IfSome, IfNone, IsTrue, false, bytes_eq, unwrap_or}
+use Rattle.std.specs.Prelude.{◌↔◌, ⊤, IfSome, IfNone, IsTrue, false, bytes_eq, unwrap_or}
 use Rattle.std.proofs.lemmas.Bool.{iff_false}
 use Rattle.std.proofs.lemmas.Option.{none-some}
 use Rattle.ban_list.specs.Subnet.{IsProper}
@@ -21,22 +21,29 @@ use Rattle.net_addr.specs.declared.peer.Peer.{Peer}
 use Rattle.peers_file.specs.declared.chain.Chain.{Chain}
 use Rattle.placing.specs.declared.sum.SumRule.{SumRule}
 use Rattle.placing.specs.declared.sum.SumRule.TheVariants.{Bytes}
-use Rattle.arguments.specs.Options.{HasRule, IsAfterColouring, IsAfterGrouping, IsAfterPeers, IsFileOptions, IsListingOptions, IsNet, IsOpeningOptions}
-use Rattle.arguments.specs.Table.{AddressOrLines, Asks, Coloured, Fields, ForBans, Form, Grouped, HasNoValues, IsAddressIn, IsProperRequest, Listing, Network, OfCommand, OfSubnet, Opening, PeerOrLines, Period, Reads, Records, TheAddress, TheAnchors, TheBanFields, TheColours, TheCommand, TheFields, TheGroups, TheKind, TheListing, TheOpening, ThePeriod, TheRecords, TheSubnet, Values, command_word, form_of, name_of, plain_word, request_values}
-use Rattle.arguments.specs.declared.colouring.Colouring.{Colouring}
+use Rattle.arguments.specs.Options.{HasOneInput, HasRule, IsAfterColouring, IsAfterGrouping, IsAfterPeers, IsFileOptions, IsListingOptions, IsNet, IsOpeningOptions, IsTables}
+use Rattle.arguments.specs.Table.{AddressOrLines, AreProperSets, Asks, Coloured, Fields, ForBans, Form, Grouped, HasNoValues, IsAddressIn, IsProperRequest, Keyed, Listing, Network, OfCommand, OfSubnet, Opening, PeerOrLines, Period, Reads, Records, Tables, TheAddress, TheAnchors, TheBanFields, TheColours, TheCommand, TheFields, TheGroups, TheKey, TheKind, TheListing, TheOpening, ThePeriod, TheRecords, TheSubnet, TheTables, Values, command_word, form_of, name_of, plain_word, request_values}
+use Rattle.arguments.specs.declared.colours.Colours.{Colours}
+use Rattle.arguments.specs.declared.colours.Colours.TheVariants as colours
 use Rattle.arguments.specs.declared.file_kind.FileKind.{FileKind}
 use Rattle.arguments.specs.declared.grouping.Grouping.{Grouping}
+use Rattle.arguments.specs.declared.marks.Marks.{Marks}
 use Rattle.arguments.specs.declared.name.CommandName.{CommandName}
 use Rattle.arguments.specs.declared.name.CommandName.TheVariants as name
 use Rattle.arguments.specs.declared.name.TheConstants.{NAMES}
 use Rattle.arguments.specs.declared.request.Request.{Request}
-use Rattle.arguments.specs.declared.request.Request.TheVariants.{Replay, Opener, Compile, Check, Decompile, Diff, Limit, Lookup, LookupLines, Address, AddressLines, Show, Anchors, Picture, Raw, Info, Groups, Risk, Ban, Unban, Banned, Bans, Gen, Trial, Help, Version}
+use Rattle.arguments.specs.declared.request.Request.TheVariants.{Replay, Opener, Compile, Check, Decompile, Diff, Limit, Lookup, LookupLines, Address, AddressLines, Show, Anchors, Picture, Raw, Info, Groups, Risk, FromRaw, Ban, Unban, Banned, Bans, Gen, Trial, Help, Version}
+use Rattle.arguments.specs.declared.tables_from.TablesFrom.{TablesFrom}
+use Rattle.arguments.specs.declared.tables_from.TablesFrom.TheVariants as from
+use Rattle.risk_parts.specs.declared.addr_set.AddrSet.{AddrSet}
 use Rattle.arguments.proofs.BesideAnchors.{one_show}
 use Rattle.arguments.proofs.BanForms.{one_ban_fields, one_period, one_subnet_in}
 use Rattle.arguments.proofs.WithCore.{no_file_kind, no_listing_kind, no_opening_kind, no_peers, one_file_kind, one_opening_kind, one_peers}
-use Rattle.arguments.proofs.Colourings.{no_colouring_kind, one_colouring_kind}
-use Rattle.arguments.proofs.Groupings.{no_grouping_kind, one_grouping_kind}
+use Rattle.arguments.proofs.Colourings.{no_colours_kind}
+use Rattle.arguments.proofs.Groupings.{no_grouping_kind}
+use Rattle.arguments.proofs.Marking.{proper_sets}
 use Rattle.arguments.proofs.Names.{name_found, one_command}
+use Rattle.arguments.proofs.WithRaw.{one_colours_tables, one_net_tables, one_risk}
 
 -- THE VALUES
 
@@ -81,13 +88,17 @@ one_values Opening texts v w is h k =
     let same = one_opening_kind texts h.0 k.0 h.1 k.1 h.3 k.3 in
     h.2 ∙ (λ i. TheOpening (same.0 i) (same.1 i)) ∙ sym k.2
 one_values Network texts v w is h k = h.1 ∙ ap TheKind (one_file_kind texts h.0 k.0 h.2 k.2) ∙ sym k.1
+one_values Keyed texts v w is h k =
+    let same = one_opening_kind texts (Some h.0) (Some k.0) h.1 k.1 h.3 k.3 in
+    h.2 ∙ (λ i. TheKey (unwrap_or (same.0 i) h.0) (same.1 i)) ∙ sym k.2
+one_values Tables texts v w is h k = h.1 ∙ ap TheTables (one_net_tables texts h.0 k.0 h.2 k.2) ∙ sym k.1
 one_values Coloured texts v w is h k =
-    let same = one_colouring_kind texts h.0 k.0 h.1 k.1 h.3 k.3 in
+    let same = one_colours_tables texts h.0 k.0 h.1 k.1 h.3 k.3 in
     h.2 ∙ (λ i. TheColours (same.0 i) (same.1 i)) ∙ sym k.2
 one_values Listing texts v w is h k = one_show texts v w h k
 one_values Records texts v w is h k = h.1 ∙ ap TheRecords (one_peers texts h.0 k.0 h.2 k.2) ∙ sym k.1
 one_values Grouped texts v w is h k =
-    let same = one_grouping_kind texts h.0 k.0 h.1 k.1 h.3 k.3 in
+    let same = one_risk texts h.0 k.0 h.1 k.1 h.3 k.3 in
     h.2 ∙ (λ i. TheGroups (same.0 i) (same.1 i)) ∙ sym k.2
 one_values OfSubnet texts v w is h k = one_subnet_in texts v w h k
 one_values Period texts v w is h k = one_period texts v w h k
@@ -115,11 +126,12 @@ request_by name.Address (TheAddress addr) = Address addr
 request_by name.Address (TheFields []) = AddressLines
 request_by name.Show (TheListing keyed kind) = Show keyed kind
 request_by name.Show (TheAnchors chain) = Anchors chain
-request_by name.Picture (TheColours by kind) = Picture by kind
+request_by name.Picture (TheColours colours from) = Picture colours from
 request_by name.Raw (TheKind kind) = Raw kind
-request_by name.Info (TheKind kind) = Info kind
-request_by name.Groups (TheKind kind) = Groups kind
-request_by name.Risk (TheGroups by kind) = Risk by kind
+request_by name.Info (TheTables from) = Info from
+request_by name.Groups (TheTables from) = Groups from
+request_by name.Risk (TheGroups by from) = Risk by from
+request_by name.FromRaw (TheKey key kind) = FromRaw key kind
 request_by name.Ban (ThePeriod rule subnet now until) = Ban rule subnet now until
 request_by name.Unban (TheSubnet rule subnet) = Unban rule subnet
 request_by name.Banned (TheBanFields rule (ThePeer peer ∷ TheNumber now ∷ [])) = Banned rule peer now
@@ -200,6 +212,18 @@ fields_in : Values → List Value
 fields_in (TheFields values) = values
 fields_in other = []
 
+sets_in : Values → List (Option AddrSet)
+sets_in (TheColours (colours.Marks marks) tables) = marks.sets
+sets_in other = []
+
+InputIn : Values → Type 0
+InputIn (TheGroups by tables) = HasOneInput by tables
+InputIn other = ⊤
+
+one_input : (texts : List (List ℕ)) (by : Grouping) (tables : TablesFrom) → Reads Grouped texts (TheGroups by tables) → HasOneInput by tables
+unfolding InputIn
+one_input texts by tables (other, listed, is, (input, chosen)) = subst InputIn (sym is) input
+
 few_lines : (texts : List (List ℕ)) (start lines : ℕ) → Reads (form_of name.Gen) texts (TheFields (TheNumber start ∷ TheNumber lines ∷ [])) → lines ≤ MAX_LINES
 unfolding numbers_in fields_in
 few_lines texts start lines reads = by texts reads.0 (ap fields_in reads.1) reads.2
@@ -223,11 +247,24 @@ module _ (law : (rule : BanRule) (text : List ℕ) (s : Subnet) → IsSubnetText
   unfolding subnet_in
   proper_subnet texts rule s (r, rest, found, is, has, (text, alone, means)) = subst IsProper (sym (ap (λ v. subnet_in v s) is)) (law r text found means)
 
+  sets_chosen : (texts : List (List ℕ)) (x : Colours) (tables : TablesFrom) → IsTables (IsAfterColouring x) texts tables → AreProperSets (sets_in (TheColours x tables))
+  unfolding sets_in
+  sets_chosen texts colours.Plain tables chosen = tt
+  sets_chosen texts (colours.By by) tables chosen = tt
+  sets_chosen texts (colours.Marks marks) (from.File kind) (rest, has, (words, means, after)) = proper_sets law words marks.sets means.2
+  sets_chosen texts (colours.Marks marks) (from.Listing chain) (rest, raw, (words, means, after)) = proper_sets law words marks.sets means.2
+
+  proper_marks : (texts : List (List ℕ)) (marks : Marks) (tables : TablesFrom) → Reads Coloured texts (TheColours (colours.Marks marks) tables) → AreProperSets marks.sets
+  unfolding sets_in
+  proper_marks texts marks tables (x, other, is, chosen) = subst AreProperSets (sym (ap sets_in is)) (sets_chosen texts x other chosen)
+
   proper : (request : Request) (texts : List (List ℕ)) → Reads (form_of (name_of request)) texts (request_values request) → IsProperRequest request
   proper (Ban rule subnet now until) texts reads = proper_period texts rule subnet now until reads
   proper (Unban rule subnet) texts reads = proper_subnet texts rule subnet reads
   proper (Gen start lines) texts reads = few_lines texts start lines reads
   proper (Trial start lines) texts reads = few_lines texts start lines reads
+  proper (Picture (colours.Marks marks) tables) texts reads = proper_marks texts marks tables reads
+  proper (Risk by tables) texts reads = one_input texts by tables reads
   proper other texts reads = tt
 
   pub proper_asked : (words : List (List ℕ)) (r : Option Request) → IfSome r (Asks words) → IfSome r IsProperRequest
@@ -266,6 +303,16 @@ unfolding HasNoValues
 no_addresses texts is_dash r iff not_it only none v (inl dash) = iff_false iff not_it dash.0
 no_addresses texts is_dash r iff not_it only none v (inr (other, (a, is, in_texts))) = none-some a (sym none ∙ only a in_texts)
 
+-- what opens tables with a key
+pub no_key_at_all : (texts : List (List ℕ)) → HasNoValues Opening texts → HasNoValues Keyed texts
+unfolding HasNoValues
+no_key_at_all texts none v (key, kind, is, chosen) = none (TheOpening (Some key) kind) (Some key, kind, refl, chosen)
+
+-- and what opens them without one
+pub no_key_there : (texts : List (List ℕ)) (none : Option (List ℕ)) (kind : FileKind) → none ≡ None → IsFileOptions (IsOpeningOptions none) texts kind → HasNoValues Keyed texts
+unfolding HasNoValues
+no_key_there texts none kind is chosen v (key, other, same, also) = none-some key (sym is ∙ (one_opening_kind texts none (Some key) kind other chosen also).0)
+
 -- what `--core` leaves to be read
 module _ (texts rest : List (List ℕ)) (rule : SumRule) (has : HasRule rule rest texts) (none : rule ≡ Bytes → (tail : List (List ℕ)) → texts ≡ codes "--core" ∷ tail → ⊥) where
   pub no_opening : (r : Option (Option (List ℕ) × Chain)) → r ≡ None → ((key : Option (List ℕ)) (chain : Chain) → IsOpeningOptions key rest chain → r ≡ Some (key, chain)) → HasNoValues Opening texts
@@ -280,13 +327,13 @@ module _ (texts rest : List (List ℕ)) (rule : SumRule) (has : HasRule rule res
       (keyed : Bool) (kind : FileKind) → IsFileOptions (IsListingOptions keyed) texts kind → ⊥
   no_listing r is only keyed kind chosen = no_listing_kind texts rest rule has none (λ keyed chain chosen. none-some (keyed, chain) (sym is ∙ only keyed chain chosen)) keyed kind chosen
 
-  pub no_grouping : (r : Option (Grouping × Chain)) → r ≡ None → ((by : Grouping) (chain : Chain) → IsAfterGrouping by rest chain → r ≡ Some (by, chain)) → HasNoValues Grouped texts
-  unfolding HasNoValues
-  no_grouping r is only v reads = no_grouping_kind texts rest rule has none (λ by chain chosen. none-some (by, chain) (sym is ∙ only by chain chosen)) reads.0 reads.1 reads.3
+  pub no_grouping : (r : Option (Grouping × Chain)) → r ≡ None → ((by : Grouping) (chain : Chain) → IsAfterGrouping by rest chain → r ≡ Some (by, chain)) →
+      (by : Grouping) (kind : FileKind) → IsFileOptions (IsAfterGrouping by) texts kind → ⊥
+  no_grouping r is only by kind chosen = no_grouping_kind texts rest rule has none (λ other chain asks. none-some (other, chain) (sym is ∙ only other chain asks)) by kind chosen
 
-  pub no_colouring : (r : Option (Option Colouring × Chain)) → r ≡ None → ((by : Option Colouring) (chain : Chain) → IsAfterColouring by rest chain → r ≡ Some (by, chain)) → HasNoValues Coloured texts
-  unfolding HasNoValues
-  no_colouring r is only v reads = no_colouring_kind texts rest rule has none (λ by chain chosen. none-some (by, chain) (sym is ∙ only by chain chosen)) reads.0 reads.1 reads.3
+  pub no_colours : (r : Option (Colours × Chain)) → r ≡ None → ((x : Colours) (chain : Chain) → IsAfterColouring x rest chain → r ≡ Some (x, chain)) →
+      (x : Colours) (kind : FileKind) → IsFileOptions (IsAfterColouring x) texts kind → ⊥
+  no_colours r is only x kind chosen = no_colours_kind texts rest rule has none (λ other chain asks. none-some (other, chain) (sym is ∙ only other chain asks)) x kind chosen
 
   pub no_records : (r : Option Chain) → (texts ≡ [] → ⊥) → r ≡ None → ((chain : Chain) → IsAfterPeers rest chain → r ≡ Some chain) → HasNoValues Records texts
   unfolding HasNoValues

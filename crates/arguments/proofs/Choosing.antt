@@ -12,7 +12,7 @@ use Rattle.hex.specs.declared.error.FromHexError.{FromHexError}
 use Rattle.peers_file.specs.declared.chain.Chain.{Chain}
 use Rattle.peers_file.specs.declared.chain.Chain.TheVariants.{Main, Test, Testnet4, Signet, Regtest, Other}
 use Rattle.arguments.specs.Inside.{Begins}
-use Rattle.arguments.specs.Options.{HasNoKey, IsChainValue, IsKey, IsKeyOption, IsListingOptions, IsMagic, IsName, IsNet, IsOpeningOptions, IsOption, chain_option}
+use Rattle.arguments.specs.Options.{HasNoKey, IsChainValue, IsKey, IsKeyOption, IsListingOptions, IsMagic, IsName, IsNet, IsOpeningOptions, IsOption, IsRaw, chain_option}
 use Rattle.arguments.specs.declared.chain_option.ChainOption.{ChainOption}
 use Rattle.arguments.specs.declared.chain_option.ChainOption.TheVariants.{Net, Magic}
 
@@ -98,6 +98,10 @@ pub third_of_net : (by : ChainOption) (value : List ℕ) (rest words : List (Lis
 unfolding third
 third_of_net Net value rest words b = omega (arith, third_is Net value rest words b)
 third_of_net Magic value rest words b = omega (arith, third_is Magic value rest words b)
+
+pub third_of_raw : (rest words : List (List ℕ)) → IsRaw rest words → get_or (get_or words 0 []) 2 0 ≡ 114
+third_of_raw rest words (inl is) = ap (λ ws. get_or (get_or ws 0 []) 2 0) is
+third_of_raw rest words (inr is) = ap (λ ws. get_or (get_or ws 0 []) 2 0) is
 
 -- words begin with one of the options that choose a chain
 one_option : (by other : ChainOption) (value next : List ℕ) (rest left words : List (List ℕ)) → Begins (chain_option by) value rest words → Begins (chain_option other) next left words
@@ -248,7 +252,7 @@ one_chain Net value a b h k = sym (chain_back value a h) ∙ chain_back value b 
 one_chain Magic value a b h k = sym (magic_back value a h) ∙ magic_back value b k
 
 -- options that begin words choose one chain
-same_choice : (by other : ChainOption) (value next : List ℕ) (rest left words : List (List ℕ)) (a b : Chain) → Begins (chain_option by) value rest words → Begins (chain_option other) next left words
+pub same_choice : (by other : ChainOption) (value next : List ℕ) (rest left words : List (List ℕ)) (a b : Chain) → Begins (chain_option by) value rest words → Begins (chain_option other) next left words
     → IsChainValue by value a → IsChainValue other next b → a ≡ b
 same_choice by other value next rest left words a b begin start h k =
     let same = same_chain by other value next rest left words begin start in

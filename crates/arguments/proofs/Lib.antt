@@ -1,7 +1,9 @@
 pub mod Choosing
 pub mod WithCore
+pub mod Marking
 pub mod Colourings
 pub mod Groupings
+pub mod WithRaw
 pub mod BesideAnchors
 pub mod BanForms
 pub mod Asking

@@ -30,6 +30,7 @@ page_of name.Raw = page_in pages.RAW
 page_of name.Info = page_in pages.INFO
 page_of name.Groups = page_in pages.GROUPS
 page_of name.Risk = page_in pages.RISK
+page_of name.FromRaw = page_in pages.FROM_RAW
 page_of name.Compile = page_in pages.COMPILE
 page_of name.Decompile = page_in pages.DECOMPILE
 page_of name.Diff = page_in pages.DIFF

@@ -1,5 +1,5 @@
 -- The options that say how tables are opened, and what is listed.
-use Rattle.std.specs.Prelude.{◌≡◌, ◌⊎◌, ℕ, ◌<◌, ◌^◌, List, [], ◌∷◌, ◌++◌, length, Bool, true, false, Option, Some, None, Ok, codes}
+use Rattle.std.specs.Prelude.{◌≡◌, ◌≢◌, ◌⊎◌, ⊤, ℕ, ◌<◌, ◌^◌, List, [], ◌∷◌, ◌++◌, length, Bool, true, false, Option, Some, None, Ok, codes}
 use Rattle.std.specs.Int.{w32, to_be_bytes}
 use Rattle.hex.specs.Hex.{decode_of}
 use Rattle.peers_file.specs.declared.chain.Chain.{Chain}
@@ -13,9 +13,17 @@ use Rattle.arguments.specs.declared.chain_option.ChainOption.{ChainOption}
 use Rattle.arguments.specs.declared.chain_option.ChainOption.TheVariants.{Net, Magic}
 use Rattle.arguments.specs.declared.colouring.Colouring.{Colouring}
 use Rattle.arguments.specs.declared.colouring.Colouring.TheVariants as colouring
+use Rattle.arguments.specs.declared.colours.Colours.{Colours}
+use Rattle.arguments.specs.declared.colours.Colours.TheVariants as colours
 use Rattle.arguments.specs.declared.file_kind.FileKind.{FileKind}
 use Rattle.arguments.specs.declared.grouping.Grouping.{Grouping}
 use Rattle.arguments.specs.declared.grouping.Grouping.TheVariants.{Source, Peer, Network, Sets}
+use Rattle.arguments.specs.declared.marks.Marks.{Marks}
+use Rattle.arguments.specs.declared.marks.TheConstants.{MAX_MARKS}
+use Rattle.arguments.specs.declared.tables_from.TablesFrom.{TablesFrom}
+use Rattle.arguments.specs.declared.tables_from.TablesFrom.TheVariants as from
+use Rattle.risk_parts.specs.Sets.{IsSetText}
+use Rattle.risk_parts.specs.declared.addr_set.AddrSet.{AddrSet}
 
 -- a key of 32 bytes, as 64 hexadecimal digits in either case
 abbrev pub IsKey : List ℕ → List ℕ → Type 0
@@ -108,13 +116,38 @@ colouring_word colouring.Source = codes "source"
 colouring_word colouring.Group = codes "group"
 colouring_word colouring.Age = codes "age"
 
--- the arguments ask for a picture of a file of this chain, and what its colours go by, if they
--- begin with `--by`
-abbrev pub IsAfterColouring : Option Colouring → List (List ℕ) → Chain → Type 0
-IsAfterColouring None options chain = IsNet options chain
-IsAfterColouring (Some by) options chain =
+-- the texts are those of the sets, in their order, and after these come no more
+abbrev pub AreMarks : List (List ℕ) → List (Option AddrSet) → Type 0
+AreMarks [] [] = ⊤
+AreMarks [] (None ∷ sets) = AreMarks [] sets
+AreMarks (text ∷ texts) (Some set ∷ sets) = IsSetText text set × AreMarks texts sets
+AreMarks texts other = ⊥
+
+-- the texts are those of the sets, of which there is one at least
+abbrev pub IsMarks : List (List ℕ) → Marks → Type 0
+IsMarks texts marks = (texts ≢ []) × (length marks.sets ≡ MAX_MARKS) × AreMarks texts marks.sets
+
+-- the arguments begin with an option that chooses this chain; the others are the rest
+abbrev pub HasChain : Chain → List (List ℕ) → List (List ℕ) → Type 0
+HasChain chain rest options =
+    (by : ChainOption) × (value : List ℕ) × IsChainValue by value chain
+    × Begins (chain_option by) value rest options
+
+-- the arguments choose a chain, and the last ones are `--mark` and the texts of sets
+abbrev pub IsMarked : Marks → List (List ℕ) → Chain → Type 0
+IsMarked marks options chain =
+    (texts : List (List ℕ)) × IsMarks texts marks
+    × (((options ≡ codes "--mark" ∷ texts) × (chain ≡ Main))
+    ⊎ HasChain chain (codes "--mark" ∷ texts) options)
+
+-- the arguments choose a chain, and what the colours of a picture show: if they begin with `--by`,
+-- what the next word says; and if they end with `--mark` and texts, which of these sets have a peer
+abbrev pub IsAfterColouring : Colours → List (List ℕ) → Chain → Type 0
+IsAfterColouring colours.Plain options chain = IsNet options chain
+IsAfterColouring (colours.By by) options chain =
     (rest : List (List ℕ)) × Begins (codes "--by") (colouring_word by) rest options
     × IsNet rest chain
+IsAfterColouring (colours.Marks marks) options chain = IsMarked marks options chain
 
 -- the arguments begin with `--core`, which chooses Bitcoin Core's checksum of an asmap, or do not;
 -- the others are the rest
@@ -126,6 +159,27 @@ HasRule Bits rest options = options ≡ codes "--core" ∷ rest
 abbrev pub IsFileOptions : (List (List ℕ) → Chain → Type 0) → List (List ℕ) → FileKind → Type 0
 IsFileOptions IsChosen options kind =
     (rest : List (List ℕ)) × HasRule kind.rule rest options × IsChosen rest kind.chain
+
+-- the arguments begin with `--raw -`, which has a listing read in the place of a file; the others
+-- are the rest
+abbrev pub IsRaw : List (List ℕ) → List (List ℕ) → Type 0
+IsRaw rest options = Begins (codes "--raw") (codes "-") rest options
+
+-- the arguments say where the tables come from: a file, or a listing
+abbrev pub IsTables : (List (List ℕ) → Chain → Type 0) → List (List ℕ) → TablesFrom → Type 0
+IsTables IsChosen options (from.File kind) = IsFileOptions IsChosen options kind
+IsTables IsChosen options (from.Listing chain) =
+    (rest : List (List ℕ)) × IsRaw rest options × IsChosen rest chain
+
+-- standard input has a listing, or the names of sets, and not both
+abbrev pub HasOneInput : Grouping → TablesFrom → Type 0
+HasOneInput Sets (from.Listing chain) = ⊥
+HasOneInput other tables = ⊤
+
+-- the arguments ask for groups of the records of tables
+abbrev pub IsRiskOptions : Grouping → List (List ℕ) → TablesFrom → Type 0
+IsRiskOptions by options tables =
+    HasOneInput by tables × IsTables (IsAfterGrouping by) options tables
 
 -- the arguments ask for the records of a file of this kind, or for none
 abbrev pub IsPeersOption : List (List ℕ) → Option FileKind → Type 0

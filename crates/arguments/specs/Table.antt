@@ -11,14 +11,19 @@ use Rattle.names.specs.Text.{IsTextOf}
 use Rattle.net_addr.specs.Address.{Address as NetAddress}
 use Rattle.net_addr.specs.declared.peer.Peer.{Peer}
 use Rattle.peers_file.specs.declared.chain.Chain.{Chain}
-use Rattle.arguments.specs.Options.{HasBanRule, IsAfterAnchors, IsAfterColouring, IsAfterGrouping, IsFileOptions, IsListingOptions, IsNet, IsOpeningOptions, IsPeersOption}
-use Rattle.arguments.specs.declared.colouring.Colouring.{Colouring}
+use Rattle.arguments.specs.Options.{HasBanRule, HasOneInput, IsAfterAnchors, IsAfterColouring, IsFileOptions, IsListingOptions, IsNet, IsOpeningOptions, IsPeersOption, IsRiskOptions, IsTables}
+use Rattle.arguments.specs.declared.colours.Colours.{Colours}
+use Rattle.arguments.specs.declared.colours.Colours.TheVariants as colours
 use Rattle.arguments.specs.declared.file_kind.FileKind.{FileKind}
 use Rattle.arguments.specs.declared.grouping.Grouping.{Grouping}
 use Rattle.arguments.specs.declared.name.CommandName.{CommandName}
 use Rattle.arguments.specs.declared.name.CommandName.TheVariants as name
+use Rattle.arguments.specs.declared.marks.Marks.{Marks}
 use Rattle.arguments.specs.declared.request.Request.{Request}
-use Rattle.arguments.specs.declared.request.Request.TheVariants.{Replay, Opener, Compile, Check, Decompile, Diff, Limit, Lookup, LookupLines, Address, AddressLines, Show, Anchors, Picture, Raw, Info, Groups, Risk, Ban, Unban, Banned, Bans, Gen, Trial, Help, Version}
+use Rattle.arguments.specs.declared.request.Request.TheVariants.{Replay, Opener, Compile, Check, Decompile, Diff, Limit, Lookup, LookupLines, Address, AddressLines, Show, Anchors, Picture, Raw, Info, Groups, Risk, FromRaw, Ban, Unban, Banned, Bans, Gen, Trial, Help, Version}
+use Rattle.arguments.specs.declared.tables_from.TablesFrom.{TablesFrom}
+use Rattle.risk_parts.specs.Sets.{IsProperSet}
+use Rattle.risk_parts.specs.declared.addr_set.AddrSet.{AddrSet}
 
 -- THE NAME
 
@@ -33,6 +38,7 @@ command_word name.Raw = codes "raw"
 command_word name.Info = codes "info"
 command_word name.Groups = codes "groups"
 command_word name.Risk = codes "risk"
+command_word name.FromRaw = codes "from-raw"
 command_word name.Compile = codes "compile"
 command_word name.Decompile = codes "decompile"
 command_word name.Diff = codes "diff"
@@ -64,16 +70,20 @@ abbrev pub NameCommand : List (List ℕ) → Option CommandName → Type 0
 NameCommand texts None = texts ≡ []
 NameCommand texts (Some name) = texts ≡ command_word name ∷ []
 
--- What comes after the name of a command: fields of these kinds; the options `--key` and `--net`;
--- only `--net`; `--by` and `--net`; `--net` and `--no-key`, or `--anchors` and `--net`; `--peers` and `--net`, or nothing; what makes records one
--- group, and `--net`; a subnet; a subnet and two times, the earlier one first; fields of these kinds
--- for a list of bans; the name of a command or nothing; `-` or a peer; or `-`, or else what people
--- write for an address. `--magic` with digits may be in the place of `--net`, and `--core` before
--- all options, and before what is for a list of bans.
+-- What comes after the name of a command: fields of these kinds; the options `--key` and `--net`,
+-- or both of them at least with `--key`; only `--net`; the same, or `--raw -` before it; after these
+-- `--by`, or `--mark` and sets after all; `--net` and `--no-key`, or `--anchors` and `--net`;
+-- `--peers` and `--net`, or nothing; what makes records one group, and `--net`, perhaps after
+-- `--raw -`; a subnet; a subnet and two times, the earlier one first; fields of these kinds for a
+-- list of bans; the name of a command or nothing; `-` or a peer; or `-`, or else what people write
+-- for an address. `--magic` with digits may be in the place of `--net`, and `--core` before all
+-- options but `--raw`, and before what is for a list of bans.
 pub data Form : Type 0 where
   Fields : List Kind → Form
   Opening : Form
+  Keyed : Form
   Network : Form
+  Tables : Form
   Coloured : Form
   Listing : Form
   Records : Form
@@ -89,12 +99,14 @@ pub data Form : Type 0 where
 pub data Values : Type 0 where
   TheFields : List Value → Values
   TheOpening : Option (List ℕ) → FileKind → Values
+  TheKey : List ℕ → FileKind → Values
   TheKind : FileKind → Values
-  TheColours : Option Colouring → FileKind → Values
+  TheTables : TablesFrom → Values
+  TheColours : Colours → TablesFrom → Values
   TheListing : Bool → FileKind → Values
   TheAnchors : Chain → Values
   TheRecords : Option FileKind → Values
-  TheGroups : Grouping → FileKind → Values
+  TheGroups : Grouping → TablesFrom → Values
   TheSubnet : BanRule → Subnet → Values
   ThePeriod : BanRule → Subnet → ℕ → ℕ → Values
   TheBanFields : BanRule → List Value → Values
@@ -123,10 +135,14 @@ Reads (Fields kinds) texts v =
 Reads Opening texts v =
     (key : Option (List ℕ)) × (kind : FileKind) × (v ≡ TheOpening key kind)
     × IsFileOptions (IsOpeningOptions key) texts kind
+Reads Keyed texts v =
+    (key : List ℕ) × (kind : FileKind) × (v ≡ TheKey key kind)
+    × IsFileOptions (IsOpeningOptions (Some key)) texts kind
 Reads Network texts v = (kind : FileKind) × (v ≡ TheKind kind) × IsFileOptions IsNet texts kind
+Reads Tables texts v = (from : TablesFrom) × (v ≡ TheTables from) × IsTables IsNet texts from
 Reads Coloured texts v =
-    (by : Option Colouring) × (kind : FileKind) × (v ≡ TheColours by kind)
-    × IsFileOptions (IsAfterColouring by) texts kind
+    (colours : Colours) × (from : TablesFrom) × (v ≡ TheColours colours from)
+    × IsTables (IsAfterColouring colours) texts from
 Reads Listing texts v =
     ((keyed : Bool) × (kind : FileKind) × (v ≡ TheListing keyed kind)
     × IsFileOptions (IsListingOptions keyed) texts kind)
@@ -134,8 +150,8 @@ Reads Listing texts v =
 Reads Records texts v =
     (peers : Option FileKind) × (v ≡ TheRecords peers) × IsPeersOption texts peers
 Reads Grouped texts v =
-    (by : Grouping) × (kind : FileKind) × (v ≡ TheGroups by kind)
-    × IsFileOptions (IsAfterGrouping by) texts kind
+    (by : Grouping) × (from : TablesFrom) × (v ≡ TheGroups by from)
+    × IsRiskOptions by texts from
 Reads OfSubnet texts v =
     (rule : BanRule) × (rest : List (List ℕ)) × (subnet : Subnet) × (v ≡ TheSubnet rule subnet)
     × HasBanRule rule rest texts × IsSubnetIn rule rest subnet
@@ -171,9 +187,10 @@ form_of name.Address = AddressOrLines
 form_of name.Show = Listing
 form_of name.Picture = Coloured
 form_of name.Raw = Network
-form_of name.Info = Network
-form_of name.Groups = Network
+form_of name.Info = Tables
+form_of name.Groups = Tables
 form_of name.Risk = Grouped
+form_of name.FromRaw = Keyed
 form_of name.Diff = Records
 form_of name.Ban = Period
 form_of name.Unban = OfSubnet
@@ -199,11 +216,12 @@ name_of (Address addr) = name.Address
 name_of AddressLines = name.Address
 name_of (Show keyed kind) = name.Show
 name_of (Anchors chain) = name.Show
-name_of (Picture by kind) = name.Picture
+name_of (Picture colours from) = name.Picture
 name_of (Raw kind) = name.Raw
-name_of (Info kind) = name.Info
-name_of (Groups kind) = name.Groups
-name_of (Risk by kind) = name.Risk
+name_of (Info from) = name.Info
+name_of (Groups from) = name.Groups
+name_of (Risk by from) = name.Risk
+name_of (FromRaw key kind) = name.FromRaw
 name_of (Ban rule subnet now until) = name.Ban
 name_of (Unban rule subnet) = name.Unban
 name_of (Banned rule peer now) = name.Banned
@@ -221,11 +239,12 @@ request_values (Lookup peer) = TheFields (ThePeer peer ∷ [])
 request_values (Address addr) = TheAddress addr
 request_values (Show keyed kind) = TheListing keyed kind
 request_values (Anchors chain) = TheAnchors chain
-request_values (Picture by kind) = TheColours by kind
+request_values (Picture colours from) = TheColours colours from
 request_values (Raw kind) = TheKind kind
-request_values (Info kind) = TheKind kind
-request_values (Groups kind) = TheKind kind
-request_values (Risk by kind) = TheGroups by kind
+request_values (Info from) = TheTables from
+request_values (Groups from) = TheTables from
+request_values (Risk by from) = TheGroups by from
+request_values (FromRaw key kind) = TheKey key kind
 request_values (Diff peers) = TheRecords peers
 request_values (Ban rule subnet now until) = ThePeriod rule subnet now until
 request_values (Unban rule subnet) = TheSubnet rule subnet
@@ -245,10 +264,19 @@ Asks words request =
 
 -- WHAT A REQUEST PROMISES
 
--- the subnet of a request, if it has one, is proper, and a generated log is within its limit
+-- each set is proper
+abbrev pub AreProperSets : List (Option AddrSet) → Type 0
+AreProperSets [] = ⊤
+AreProperSets (None ∷ sets) = AreProperSets sets
+AreProperSets (Some set ∷ sets) = IsProperSet set × AreProperSets sets
+
+-- the subnet of a request, if it has one, is proper, and so are the sets of a picture; `risk` takes
+-- one thing from standard input at most; a generated log is within its limit
 abbrev pub IsProperRequest : Request → Type 0
 IsProperRequest (Ban rule subnet now until) = IsProper subnet
 IsProperRequest (Unban rule subnet) = IsProper subnet
 IsProperRequest (Gen start lines) = lines ≤ MAX_LINES
 IsProperRequest (Trial start lines) = lines ≤ MAX_LINES
+IsProperRequest (Picture (colours.Marks marks) from) = AreProperSets marks.sets
+IsProperRequest (Risk by from) = HasOneInput by from
 IsProperRequest other = ⊤

@@ -1,13 +1,8 @@
-ghost use Rattle.std.specs.Prelude.{◌≡◌, map, string_bytes, Option, Some, IfSome};
-ghost use Rattle.arguments.specs.Options.{IsAfterColouring, colouring_word};
-ghost use Rattle.arguments.specs.declared.colouring.Colouring.{Colouring};
-ghost use Rattle.peers_file.specs.declared.chain.Chain.{Chain};
+ghost use Rattle.arguments.specs.Options.{colouring_word};
 
-use crate::options::{cut_option, read_net};
-use grammar::{Keyword, find_keyword};
-use peers_file::Chain;
+use grammar::Keyword;
 
-/// What the colours of a picture go by.
+/// What the colours of a picture go by, after `--by`.
 #[derive(Clone, Copy)]
 pub enum Colouring {
     /// The network of the peer's address.
@@ -38,27 +33,5 @@ impl Keyword for Colouring {
             Colouring::Group => b"group",
             Colouring::Age => b"age",
         }
-    }
-}
-
-/// Reads `--by` with what the colours go by, if it comes first, and then the arguments that choose
-/// a chain.
-pub(crate) fn read_after_colouring(words: &[String]) -> Option<(Option<Colouring>, Chain)>
-    ensures found { IfSome result (λ o. IsAfterColouring o.0 (map string_bytes words.now) o.1) }
-    ensures only { (by : Option Colouring) (chain : Chain) →
-        IsAfterColouring by (map string_bytes words.now) chain → result ≡ Some (by, chain) }
-{
-    let Some((word, rest)) = cut_option(words, b"--by") else {
-        return match read_net(words) {
-            Some(chain) => Some((None, chain)),
-            None => None,
-        };
-    };
-    let Some(by) = find_keyword(&COLOURINGS, word) else {
-        return None;
-    };
-    match read_net(rest) {
-        Some(chain) => Some((Some(by), chain)),
-        None => None,
     }
 }

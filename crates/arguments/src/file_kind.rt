@@ -1,13 +1,15 @@
-ghost use Rattle.std.specs.Prelude.{◌≡◌, ◌≢◌, ℕ, Bool, List, ◌∷◌, codes, map, string_bytes, IfSome, IfNone};
-ghost use Rattle.arguments.specs.Options.{HasRule, IsAfterGrouping, IsFileOptions, IsListingOptions, IsNet, IsOpeningOptions, IsPeersOption, IsAfterColouring};
-ghost use Rattle.arguments.specs.Table.{Grouped, HasNoValues, Network, Opening, Records, Coloured};
+ghost use Rattle.std.specs.Prelude.{◌≡◌, ◌≢◌, ℕ, Bool, List, ◌∷◌, codes, map, string_bytes, Some, IfSome, IfNone};
+ghost use Rattle.arguments.specs.Options.{HasRule, IsAfterColouring, IsAfterGrouping, IsFileOptions, IsListingOptions, IsNet, IsOpeningOptions, IsPeersOption};
+ghost use Rattle.arguments.specs.Table.{HasNoValues, Keyed, Network, Opening, Records};
+ghost use Rattle.arguments.specs.declared.colours.Colours.{Colours};
 ghost use Rattle.arguments.specs.declared.file_kind.FileKind.{FileKind};
+ghost use Rattle.arguments.specs.declared.grouping.Grouping.{Grouping};
 ghost use Rattle.placing.specs.declared.sum.SumRule.TheVariants.{Bytes};
 
-use crate::colouring::read_after_colouring;
+use crate::colours::read_colours;
 use crate::grouping::read_after_grouping;
 use crate::options::{after_flag, read_after_peers, read_listing, read_net, read_opening};
-use crate::{Colouring, Grouping};
+use crate::{Colours, Grouping};
 use peers_file::Chain;
 use placing::SumRule;
 
@@ -76,12 +78,29 @@ pub(crate) fn read_listing_kind(words: &[String]) -> Option<(bool, FileKind)>
     }
 }
 
-/// Reads the arguments after `risk`: `--core`, and after it what makes records one group, and the
-/// arguments that choose a chain.
+/// Reads the arguments after `from-raw`: `--core`, and after it those that choose a key, which is
+/// not left out, and a chain.
+pub(crate) fn read_keyed_kind(words: &[String]) -> Option<([u8; 32], FileKind)>
+    ensures found { IfSome result (λ o.
+        IsFileOptions (IsOpeningOptions (Some o.0)) (map string_bytes words.now) o.1) }
+    ensures none { IfNone result (HasNoValues Keyed (map string_bytes words.now)) }
+{
+    let Some((key, kind)) = read_opening_kind(words) else {
+        return None;
+    };
+    match key {
+        Some(key) => Some((key, kind)),
+        None => None,
+    }
+}
+
+/// Reads the arguments after `risk` for a file: `--core`, and after it what makes records one
+/// group, and the arguments that choose a chain.
 pub(crate) fn read_grouping_kind(words: &[String]) -> Option<(Grouping, FileKind)>
     ensures found { IfSome result (λ o.
         IsFileOptions (IsAfterGrouping o.0) (map string_bytes words.now) o.1) }
-    ensures none { IfNone result (HasNoValues Grouped (map string_bytes words.now)) }
+    ensures none { IfNone result ((by : Grouping) (kind : FileKind) →
+        ¬ IsFileOptions (IsAfterGrouping by) (map string_bytes words.now) kind) }
 {
     let (rule, rest) = cut_rule(words);
     match read_after_grouping(rest) {
@@ -90,16 +109,17 @@ pub(crate) fn read_grouping_kind(words: &[String]) -> Option<(Grouping, FileKind
     }
 }
 
-/// Reads the arguments after `picture`: `--core`, and after it what the colours go by, and the
-/// arguments that choose a chain.
-pub(crate) fn read_colouring_kind(words: &[String]) -> Option<(Option<Colouring>, FileKind)>
+/// Reads the arguments after `picture` for a file: `--core`, and after it what the colours show,
+/// and the arguments that choose a chain.
+pub(crate) fn read_colours_kind(words: &[String]) -> Option<(Colours, FileKind)>
     ensures found { IfSome result (λ o.
         IsFileOptions (IsAfterColouring o.0) (map string_bytes words.now) o.1) }
-    ensures none { IfNone result (HasNoValues Coloured (map string_bytes words.now)) }
+    ensures none { IfNone result ((colours : Colours) (kind : FileKind) →
+        ¬ IsFileOptions (IsAfterColouring colours) (map string_bytes words.now) kind) }
 {
     let (rule, rest) = cut_rule(words);
-    match read_after_colouring(rest) {
-        Some((by, chain)) => Some((by, FileKind { chain, rule })),
+    match read_colours(rest) {
+        Some((colours, chain)) => Some((colours, FileKind { chain, rule })),
         None => None,
     }
 }

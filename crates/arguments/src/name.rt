@@ -18,6 +18,7 @@ pub enum CommandName {
     Info,
     Groups,
     Risk,
+    FromRaw,
     Compile,
     Decompile,
     Diff,
@@ -35,7 +36,7 @@ pub enum CommandName {
 }
 
 /// All names, each once, in the order in which the help lists them.
-pub const NAMES: [CommandName; 23] = [
+pub const NAMES: [CommandName; 24] = [
     CommandName::Replay,
     CommandName::Opener,
     CommandName::Limit,
@@ -45,6 +46,7 @@ pub const NAMES: [CommandName; 23] = [
     CommandName::Info,
     CommandName::Groups,
     CommandName::Risk,
+    CommandName::FromRaw,
     CommandName::Compile,
     CommandName::Decompile,
     CommandName::Diff,
@@ -75,6 +77,7 @@ impl Keyword for CommandName {
             CommandName::Info => b"info",
             CommandName::Groups => b"groups",
             CommandName::Risk => b"risk",
+            CommandName::FromRaw => b"from-raw",
             CommandName::Compile => b"compile",
             CommandName::Decompile => b"decompile",
             CommandName::Diff => b"diff",
@@ -110,6 +113,7 @@ impl CommandName {
             CommandName::Info => pages::INFO,
             CommandName::Groups => pages::GROUPS,
             CommandName::Risk => pages::RISK,
+            CommandName::FromRaw => pages::FROM_RAW,
             CommandName::Compile => pages::COMPILE,
             CommandName::Decompile => pages::DECOMPILE,
             CommandName::Diff => pages::DIFF,

@@ -189,7 +189,7 @@ pub(crate) fn read_after_anchors(words: &[String]) -> Option<Chain>
 
 /// Cuts the option that chooses a chain off the arguments that begin with it, and returns it, its
 /// value and the rest.
-fn cut_chain<'a>(words: &'a [String]) -> Option<(ChainOption, &'a [u8], &'a [String])>
+pub(crate) fn cut_chain<'a>(words: &'a [String]) -> Option<(ChainOption, &'a [u8], &'a [String])>
     ensures found { IfSome result (λ parts. Begins (chain_option parts.0) parts.1.now
         (map string_bytes parts.2.now) (map string_bytes words.now)) }
     ensures none { IfNone result ((by : ChainOption) (value : List ℕ) (rest : List (List ℕ)) →

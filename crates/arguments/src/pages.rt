@@ -8,8 +8,8 @@ pub(crate) const HEAD: &str = "usage: addrman COMMAND [ARGUMENTS]
 
 /// What the list of the commands ends with.
 pub(crate) const TAIL: &str = "
-Files are in the current folder. In that of a running node use no replay, compile, ban or
-unban: they replace its files. `addrman help COMMAND` says more of a command.
+Files are in the current folder. In that of a running node use no replay, from-raw, compile,
+ban or unban: they replace its files. `addrman help COMMAND` says more of a command.
 ";
 
 pub(crate) const REPLAY: Page = (
@@ -78,7 +78,7 @@ Codes    0 done, 2 bad usage, 4 peers.dat is refused, 8 the output cannot be wri
 );
 
 pub(crate) const PICTURE: Page = (
-    "picture [--by HOW] [--net CHAIN] [--core]",
+    "picture [--by HOW] [--net CHAIN] [--core|--raw -] [--mark SET..]",
     "draws the tables of peers.dat, an SVG",
     "\
 Reads    asmap.dat, if it is there, and peers.dat.
@@ -86,13 +86,18 @@ Writes   one SVG: both tables, with the six source groups that have the most slo
          colours, and a list of them.
 HOW      network, source, group or age: the colours go by the peer's network, the source's
          group, the peer's group, or how much older the peer's time is than the newest one.
+SET      a prefix, as 1.2.0.0/16 or 2001:db8::/32, a whole address, or an AS number, as
+         AS64500. The peers of up to six sets have a colour each, and all others none. They
+         are the last arguments; --mark is not beside --by.
 CHAIN    main, test, testnet4, signet or regtest; main if it is left out. In place of
          --net may be --magic and the 8 hexadecimal digits that its files begin with.
 FILE     --peers FILE and --asmap FILE are read in the place of peers.dat and asmap.dat.
+--raw -  reads what raw or getrawaddrman printed, from standard input, in the place of
+         peers.dat; not beside --core or --peers.
 --core   takes the checksum of asmap.dat in peers.dat as Bitcoin Core 24 to 30 does.
 Codes    0 done, 2 bad usage, 4 peers.dat is refused, 5 asmap.dat is refused,
          8 the output cannot be written, 9 the folder failed, 12 out of memory,
-         14 peers.dat is missing.
+         14 peers.dat is missing, 20 the listing is refused.
 ",
 );
 
@@ -113,7 +118,7 @@ Codes    0 done, 2 bad usage, 4 peers.dat is refused, 5 asmap.dat is refused,
 );
 
 pub(crate) const INFO: Page = (
-    "info [--net CHAIN] [--core]",
+    "info [--net CHAIN] [--core|--raw -]",
     "prints how many records of peers.dat each network has, as JSON",
     "\
 Reads    peers.dat; asmap.dat, if it is there.
@@ -121,15 +126,17 @@ Writes   what Bitcoin Core's getaddrmaninfo returns.
 CHAIN    main, test, testnet4, signet or regtest; main if it is left out. In place of
          --net may be --magic and the 8 hexadecimal digits that its files begin with.
 FILE     --peers FILE and --asmap FILE are read in the place of peers.dat and asmap.dat.
+--raw -  reads what raw or getrawaddrman printed, from standard input, in the place of
+         peers.dat; not beside --core or --peers.
 --core   takes the checksum of asmap.dat in peers.dat as Bitcoin Core 24 to 30 does.
 Codes    0 done, 2 bad usage, 4 peers.dat is refused, 5 asmap.dat is refused,
          8 the output cannot be written, 9 the folder failed, 12 out of memory,
-         14 peers.dat is missing.
+         14 peers.dat is missing, 20 the listing is refused.
 ",
 );
 
 pub(crate) const GROUPS: Page = (
-    "groups [--net CHAIN] [--core]",
+    "groups [--net CHAIN] [--core|--raw -]",
     "prints how much of peers.dat each group has, as JSON",
     "\
 Reads    peers.dat; asmap.dat, if it is there.
@@ -139,15 +146,17 @@ Writes   for each group its slots, buckets and records; their sums; how many AS 
 CHAIN    main, test, testnet4, signet or regtest; main if it is left out. In place of
          --net may be --magic and the 8 hexadecimal digits that its files begin with.
 FILE     --peers FILE and --asmap FILE are read in the place of peers.dat and asmap.dat.
+--raw -  reads what raw or getrawaddrman printed, from standard input, in the place of
+         peers.dat; not beside --core or --peers.
 --core   takes the checksum of asmap.dat in peers.dat as Bitcoin Core 24 to 30 does.
 Codes    0 done, 2 bad usage, 4 peers.dat is refused, 5 asmap.dat is refused,
          8 the output cannot be written, 9 the folder failed, 12 out of memory,
-         14 peers.dat is missing.
+         14 peers.dat is missing, 20 the listing is refused.
 ",
 );
 
 pub(crate) const RISK: Page = (
-    "risk source|peer|network|- [--net CHAIN] [--core]",
+    "risk source|peer|network|- [--net CHAIN] [--core|--raw -]",
     "prints which part of the picks from peers.dat falls to each group, at most",
     "\
 Reads    peers.dat; asmap.dat, if it is there; with -, prefixes and AS numbers from
@@ -164,11 +173,34 @@ network  groups them by the network of the peer's address.
 CHAIN    main, test, testnet4, signet or regtest; main if it is left out. In place of
          --net may be --magic and the 8 hexadecimal digits that its files begin with.
 FILE     --peers FILE and --asmap FILE are read in the place of peers.dat and asmap.dat.
+--raw -  reads what raw or getrawaddrman printed, from standard input, in the place of
+         peers.dat; not beside -, --core or --peers.
 --core   takes the checksum of asmap.dat in peers.dat as Bitcoin Core 24 to 30 does.
 Codes    0 done, 2 bad usage, 3 a line has an error, 4 peers.dat is refused,
          5 asmap.dat is refused, 7 the log cannot be read, 8 the output cannot be
          written, 9 the folder failed, 10 the log is too long, 12 out of memory,
-         13 a line is too long, 14 peers.dat is missing.
+         13 a line is too long, 14 peers.dat is missing, 20 the
+         listing is refused.
+",
+);
+
+pub(crate) const FROM_RAW: Page = (
+    "from-raw --key HEX64 [--net CHAIN] [--core]",
+    "makes a peers.dat of what raw or getrawaddrman printed",
+    "\
+Reads    standard input, a text of JSON of at most 67108864 bytes; asmap.dat, if it is
+         there.
+Writes   peers.dat, by way of peers.tmp, and a line with its size. A listing has no key,
+         so the records are in other slots than those that it names: each is in the slot
+         that HEX64 gives it.
+HEX64    the key of the file, 64 hexadecimal digits.
+CHAIN    main, test, testnet4, signet or regtest; main if it is left out. In place of
+         --net may be --magic and the 8 hexadecimal digits that its files begin with.
+FILE     --asmap FILE is read in the place of asmap.dat, and --key-file FILE has the key.
+--core   writes the checksum of asmap.dat as Bitcoin Core 24 to 30 does.
+Codes    0 done, 2 bad usage, 5 asmap.dat is refused, 7 the input cannot be read, 8 the
+         output cannot be written, 9 the folder failed, 12 out of memory, 20 the listing
+         is refused.
 ",
 );
 

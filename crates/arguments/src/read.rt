@@ -8,11 +8,11 @@ use crate::address::read_address;
 use crate::bans::{cut_ban_rule, read_period, read_subnet};
 use crate::commands::{plain_word, read_command};
 use crate::file_kind::{
-    read_colouring_kind, read_file_kind, read_grouping_kind, read_listing_kind, read_opening_kind,
-    read_records,
+    read_file_kind, read_keyed_kind, read_listing_kind, read_opening_kind, read_records,
 };
 use crate::name::{CommandName, NAMES};
 use crate::options::{first_word, only_word, read_after_anchors};
+use crate::tables_from::{read_picture, read_risk, read_tables};
 use ban_list::{BanRule, texts_have_one_meaning};
 use gen_load::MAX_LINES;
 use grammar::{Between, Fields, LongBetween, OnePeer, find_keyword, read_fields};
@@ -77,21 +77,25 @@ fn read_after(alloc: Global, name: CommandName, rest: &[String]) -> Option<Reque
         CommandName::Address => read_addresses(rest),
         CommandName::Show => read_show(rest),
         CommandName::Picture => {
-            let (by, kind) = read_colouring_kind(rest)?;
-            Some(Request::Picture { by, kind })
+            let (colours, from) = read_picture(rest)?;
+            Some(Request::Picture { colours, from })
         }
         CommandName::Raw => Some(Request::Raw {
             kind: read_file_kind(rest)?,
         }),
         CommandName::Info => Some(Request::Info {
-            kind: read_file_kind(rest)?,
+            from: read_tables(rest)?,
         }),
         CommandName::Groups => Some(Request::Groups {
-            kind: read_file_kind(rest)?,
+            from: read_tables(rest)?,
         }),
         CommandName::Risk => {
-            let (by, kind) = read_grouping_kind(rest)?;
-            Some(Request::Risk { by, kind })
+            let (by, from) = read_risk(rest)?;
+            Some(Request::Risk { by, from })
+        }
+        CommandName::FromRaw => {
+            let (key, kind) = read_keyed_kind(rest)?;
+            Some(Request::FromRaw { key, kind })
         }
         CommandName::Ban => {
             let (rule, subnet, now, until) = read_period(rest)?;

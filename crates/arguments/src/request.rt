@@ -1,4 +1,4 @@
-use crate::{Colouring, CommandName, FileKind, Grouping};
+use crate::{Colours, CommandName, FileKind, Grouping, TablesFrom};
 use ban_list::{BanRule, Subnet};
 use net_addr::{NetAddr, Peer};
 use peers_file::Chain;
@@ -56,33 +56,38 @@ pub enum Request {
         chain: Chain,
     },
     /// `picture --net CHAIN`: write a picture of the tables that peers.dat, a file of this chain,
-    /// opens with asmap.dat. With `--by network`, `source`, `group` or `age` its colours go by
-    /// that.
+    /// opens with asmap.dat, or of those of a listing. Its colours go by `--by`, or by `--mark`.
     Picture {
-        by: Option<Colouring>,
-        kind: FileKind,
+        colours: Colours,
+        from: TablesFrom,
     },
     /// `raw --net CHAIN`: print the records of peers.dat, a file of this chain, by the slots that
     /// they are in, as JSON.
     Raw {
         kind: FileKind,
     },
-    /// `info --net CHAIN`: print how many records of peers.dat, a file of this chain, each network
-    /// has, as JSON.
+    /// `info --net CHAIN`: print how many records of peers.dat, a file of this chain, or of a
+    /// listing, each network has, as JSON.
     Info {
-        kind: FileKind,
+        from: TablesFrom,
     },
     /// `groups --net CHAIN`: print how many slots, buckets and records of peers.dat, a file of this
-    /// chain, each group has, as JSON.
+    /// chain, or of a listing, each group has, as JSON.
     Groups {
-        kind: FileKind,
+        from: TablesFrom,
     },
     /// `risk source --net CHAIN`, `risk peer` and `risk network`: print which part of the picks
-    /// from the tables of peers.dat, a file of this chain, falls to each group, at most. `risk -`:
-    /// print which part falls to each set of addresses that a line of the log names, and to all of
-    /// them.
+    /// from the tables of peers.dat, a file of this chain, or of a listing, falls to each group, at
+    /// most. `risk -`: print which part falls to each set of addresses that a line of the log
+    /// names, and to all of them; the tables are not those of a listing then.
     Risk {
         by: Grouping,
+        from: TablesFrom,
+    },
+    /// `from-raw --key HEX64 --net CHAIN`: read a listing of tables from the log, and save it as
+    /// peers.dat, a file of this kind, under this key.
+    FromRaw {
+        key: [u8; 32],
         kind: FileKind,
     },
     /// `ban SUBNET NOW UNTIL`: drop the bans of banlist.json that are over, and ban the subnet

@@ -14,6 +14,6 @@ mod records;
 mod slots;
 mod view;
 
-pub use law::slots_are_named;
+pub use law::{records_have_addresses, slots_are_named};
 pub use net_addr::Memory;
 pub use view::{RawView, read_view};
