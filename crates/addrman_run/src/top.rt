@@ -14,6 +14,7 @@ use crate::compile::compile_table;
 use crate::decompile::decompile;
 use crate::diff::{chain_of, diff};
 use crate::file_line::write_file_line;
+use crate::from_raw::from_raw;
 use crate::generate::generate;
 use crate::help::{help, version};
 use crate::limit::limit;
@@ -164,6 +165,7 @@ fn carry_out<L: Source, F: Folder, K: Sink, H: BuildHasher + Drop>(
             write_view(alloc, hasher, &GroupsText, from, folder, out, learned)
         }
         Request::Risk { by, from } => risk(alloc, hasher, by, from, log, folder, out, learned),
+        Request::FromRaw { key, kind } => from_raw(alloc, key, kind, log, folder, out, learned),
         Request::Ban {
             rule,
             subnet,
