@@ -1,5 +1,5 @@
 -- No two records of a listing have one peer, and each row's peer has a record.
-use Rattle.std.proofs.Common.{◌≡◌, ◌++◌, ◌∷◌, ◌∙◌, ◌+◌, ◌&&◌, ◌||◌, Bool, Contains, List, None, Option, Some, [], ap, cond, false, if◌then◌else◌, inl, inr, map, refl, subst, sym, true, ℕ, ◌⊎◌}
+use Rattle.std.proofs.Common.{◌≡◌, ◌++◌, ◌∷◌, ◌∙◌, ◌+◌, ◌&&◌, ◌||◌, Bool, Contains, List, None, Option, Some, [], ap, cond, false, if◌then◌else◌, inl, inr, map, refl, subst, sym, true, ℕ, ◌⊎◌, arith, suc}
 use Rattle.std.specs.Prelude.{fold, ⊤}
 use Rattle.std.specs.List.{list_any}
 use Rattle.std.proofs.lemmas.Bool.{and_parts, both_ways, or_parts}
@@ -63,11 +63,11 @@ has-more peer done r has = by (list_any (same_peer r.peer) (peers_of done))
 
 of_peers : (peer : Peer) (rs : List FileRec) → list_any (same_peer peer) (peers_of rs) ≡ true → HasPeer peer rs
 of_peers peer [] any = absurd (cc)
-of_peers peer (r ∷ rs) any = by (same_peer peer r.peer) refl any
+of_peers peer (r ∷ rs) any = by (same_peer peer r.peer) refl (of_peers peer rs) any
   where
-    by : (b : Bool) → same_peer peer r.peer ≡ b → (b || list_any (same_peer peer) (peers_of rs)) ≡ true → HasPeer peer (r ∷ rs)
-    by true is all = (r, (0, omega arith, refl), sym ((same_peer-Decides peer r.peer).0 is))
-    by false is all = let rest = of_peers peer rs all in let within = rest.1.1 in (rest.0, (suc rest.1.0, omega (arith, within), rest.1.2), rest.2)
+    by : (b : Bool) → same_peer peer r.peer ≡ b → (list_any (same_peer peer) (peers_of rs) ≡ true → HasPeer peer rs) → (b || list_any (same_peer peer) (peers_of rs)) ≡ true → HasPeer peer (r ∷ rs)
+    by true is more all = (r, (0, omega arith, refl), sym ((same_peer-Decides peer r.peer).0 is))
+    by false is more all = let rest = more all in let within = rest.1.1 in (rest.0, (suc rest.1.0, omega (arith, within), rest.1.2), rest.2)
 
 has-own : (done : List FileRec) (r : FileRec) → HasPeer r.peer (with_rec done r)
 has-own done r = by (list_any (same_peer r.peer) (peers_of done)) refl
@@ -92,12 +92,12 @@ has-first done (x ∷ rs) r c = elim (Contains-cases x rs r c) [
 apart-rows : (peers : List Peer) (rows : List RawRow) → first_twice peers rows ≡ None → AreApart peers (recs_of rows)
 unfolding AreApart
 apart-rows peers [] none = tt
-apart-rows peers (row ∷ rows) none = by (list_any (same_peer row.rec.peer) peers) refl none
+apart-rows peers (row ∷ rows) none = by (list_any (same_peer row.rec.peer) peers) refl (apart-rows (peers ++ row.rec.peer ∷ []) rows) none
   where
-    by : (b : Bool) → list_any (same_peer row.rec.peer) peers ≡ b → (if b then Some row else first_twice (peers ++ row.rec.peer ∷ []) rows) ≡ None
+    by : (b : Bool) → list_any (same_peer row.rec.peer) peers ≡ b → (first_twice (peers ++ row.rec.peer ∷ []) rows ≡ None → AreApart (peers ++ row.rec.peer ∷ []) (recs_of rows)) → (if b then Some row else first_twice (peers ++ row.rec.peer ∷ []) rows) ≡ None
         → (list_any (same_peer row.rec.peer) peers ≡ false) × AreApart (peers ++ row.rec.peer ∷ []) (recs_of rows)
-    by true is some = absurd (cc)
-    by false is rest = (is, apart-rows (peers ++ row.rec.peer ∷ []) rows rest)
+    by true is more some = absurd (cc)
+    by false is more rest = (is, more rest)
 
 none_twice : (raw : Raw) → first_fault raw ≡ None → first_twice (peers_of (new_recs raw)) raw.tried ≡ None
 none_twice raw none = by (first_again [] raw.new) (first_twice (peers_of (new_recs raw)) raw.tried) none
@@ -111,22 +111,26 @@ none_twice raw none = by (first_again [] raw.new) (first_twice (peers_of (new_re
 
 same-any : (peer : Peer) (earlier : List FileRec) → list_any (λ q. is_valid q.peer.addr && same_peer q.peer peer) earlier ≡ true → list_any (same_peer peer) (peers_of earlier) ≡ true
 same-any peer [] any = any
-same-any peer (r ∷ rs) any = by (same_peer peer r.peer) refl (is_valid r.peer.addr && same_peer r.peer peer) refl any
+same-any peer (r ∷ rs) any = by (same_peer peer r.peer) refl (is_valid r.peer.addr && same_peer r.peer peer) refl (same-any peer rs) any
   where
-    by : (a : Bool) → same_peer peer r.peer ≡ a → (b : Bool) → (is_valid r.peer.addr && same_peer r.peer peer) ≡ b → (b || list_any (λ q. is_valid q.peer.addr && same_peer q.peer peer) rs) ≡ true
+    by : (a : Bool) → same_peer peer r.peer ≡ a → (b : Bool) → (is_valid r.peer.addr && same_peer r.peer peer) ≡ b
+        → (list_any (λ q. is_valid q.peer.addr && same_peer q.peer peer) rs ≡ true → list_any (same_peer peer) (peers_of rs) ≡ true)
+        → (b || list_any (λ q. is_valid q.peer.addr && same_peer q.peer peer) rs) ≡ true
         → (a || list_any (same_peer peer) (peers_of rs)) ≡ true
-    by true is b all rest = refl
-    by false is false all rest = same-any peer rs rest
-    by false is true all rest = absurd (both_ways (same_peer peer r.peer) ((same_peer-Decides peer r.peer).1 (sym ((same_peer-Decides r.peer peer).0 (and_parts (is_valid r.peer.addr) (same_peer r.peer peer) all).1))) is)
+    by true is b all more rest = refl
+    by false is false all more rest = more rest
+    by false is true all more rest = absurd (both_ways (same_peer peer r.peer) is ((same_peer-Decides peer r.peer).1 (sym ((same_peer-Decides r.peer peer).0 (and_parts (is_valid r.peer.addr) (same_peer r.peer peer) all).1))))
 
 none_from : (earlier rs : List FileRec) (index : ℕ) → AreApart (peers_of earlier) rs → duplicate_from earlier index rs ≡ None
 unfolding AreApart
 none_from earlier [] index apart = refl
-none_from earlier (r ∷ rs) index apart = by (is_repeated earlier r) refl
+none_from earlier (r ∷ rs) index apart =
+    by (is_repeated earlier r) refl
+    (none_from (earlier ++ r ∷ []) rs (index + 1) (subst (λ ps. AreApart ps rs) (sym (map-append (λ (q : FileRec). q.peer) earlier (r ∷ []))) apart.1))
   where
-    by : (b : Bool) → is_repeated earlier r ≡ b → (if b then Some index else duplicate_from (earlier ++ r ∷ []) (index + 1) rs) ≡ None
-    by true is = absurd (both_ways (list_any (same_peer r.peer) (peers_of earlier)) (same-any r.peer earlier (and_parts (is_valid r.peer.addr) _ is).1) apart.0)
-    by false is = none_from (earlier ++ r ∷ []) rs (index + 1) (subst (λ ps. AreApart ps rs) (sym (map-append (λ (q : FileRec). q.peer) earlier (r ∷ []))) apart.1)
+    by : (b : Bool) → is_repeated earlier r ≡ b → duplicate_from (earlier ++ r ∷ []) (index + 1) rs ≡ None → (if b then Some index else duplicate_from (earlier ++ r ∷ []) (index + 1) rs) ≡ None
+    by true is more = absurd (both_ways (list_any (same_peer r.peer) (peers_of earlier)) apart.0 (same-any r.peer earlier (and_parts (is_valid r.peer.addr) _ is).1))
+    by false is more = more
 
 -- no valid record has the peer of an earlier one
 pub no_duplicate : (raw : Raw) → first_fault raw ≡ None → duplicate_from [] 0 (new_recs raw ++ recs_of raw.tried) ≡ None

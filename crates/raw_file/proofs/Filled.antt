@@ -1,8 +1,9 @@
 -- The buckets that records of a file get.
 use Rattle.std.proofs.Common.{◌≡◌, ◌≢◌, is_some, ◌∷◌, ◌∙◌, ◌==◌, ◌||◌, ◌<◌, ◌++◌, Bool, Contains, List, None, Option, Some, [], All, ap, arith, false, if◌then◌else◌, inl, inr, length, map, not, refl, subst, sym, true, ℕ, suc, ◌⊎◌}
-use Rattle.std.specs.Prelude.{find, nat_lt, slice_get, unwrap_or}
+use Rattle.std.specs.Prelude.{find, slice_get, unwrap_or}
 use Rattle.std.specs.List.{list_any, position_or_len, range_with_len}
 use Rattle.std.proofs.lemmas.List.Elements.{Contains-push_cases}
+use Rattle.std.proofs.lemmas.Bool.{lt-ltb}
 use Rattle.std.proofs.lemmas.List.Folds.{find_at}
 use Rattle.std.proofs.lemmas.Slice.Eq.{bytes_eq-Decides}
 use Rattle.net_addr.specs.Ranges.{is_valid}
@@ -193,14 +194,11 @@ any_peer peer (r ∷ recs) has = elim (Contains-cases r recs has.0 has.1) [
 at_index : (recs : List FileRec) (peer : Peer) (f : FileRec) (n : ℕ) → HasPeer peer recs → index_of recs peer ≡ n → slice_get recs n ≡ Some f → peer ≡ f.peer
 at_index recs peer f n has is found =
     let place : ℕ = position_or_len (same_peer peer) (peers_of recs) in
-    let index : index_of recs peer ≡ place = ap (λ b. unwrap_or (if b then Some place else None) 0) (is_below place (length (peers_of recs)) (position_found (same_peer peer) (peers_of recs) (any_peer peer recs has))) in
+    let index : index_of recs peer ≡ place = ap (λ b. unwrap_or (if b then Some place else None) 0) (lt-ltb place (length (peers_of recs)) (position_found (same_peer peer) (peers_of recs) (any_peer peer recs has))) in
     let at : place ≡ n = sym index ∙ is in
     let search_is : find (λ (q : FileRec). same_peer peer q.peer) recs ≡ Some f =
     find_at (λ (q : FileRec). same_peer peer q.peer) recs ∙ ap (slice_get recs) (sym (position_of recs peer) ∙ at) ∙ found in
     (same_peer-Decides peer f.peer).0 (find-Some (λ (q : FileRec). same_peer peer q.peer) recs f search_is).1
-  where
-    is_below : (a b : ℕ) → a < b → nat_lt a b ≡ true
-    is_below a b less = omega (arith, less)
 
 module _ (raw : Raw) (places : Places) (keeps : KeepsAtOpening (listing_file raw places) places) where
   abbrev left : State
@@ -208,16 +206,12 @@ module _ (raw : Raw) (places : Places) (keeps : KeepsAtOpening (listing_file raw
 
   all : AreFrom (map (pair_of (new_recs raw)) raw.new) (uses_buckets (listing_file raw places) places) left
   all =
+      let pairs = map (pair_of (new_recs raw)) raw.new in
+      let same = uses_buckets (listing_file raw places) places in
       drop_all-from pairs same (place_all same (with_records (listing_file raw places) places) pairs) (range_with_len 0 (length (new_recs raw)))
       (all-from pairs same (with_records (listing_file raw places) places) pairs (λ p c. c)
       (tried-from pairs same (with_all_new (empty_state places) (new_recs raw)) (recs_of raw.tried)
       (new-from pairs same (empty_state places) (new_recs raw) (λ q c. absurd (none_in_nil q c)))))
-    where
-      abbrev pairs : List (ℕ × ℕ)
-      pairs = map (pair_of (new_recs raw)) raw.new
-
-      abbrev same : Bool
-      same = uses_buckets (listing_file raw places) places
 
   places-left : left.places ≡ places
   places-left = places-restored (listing_file raw places) places
