@@ -40,6 +40,7 @@ mod picture;
 mod replay;
 mod report;
 mod risk;
+mod risk_from;
 mod risk_lines;
 mod show;
 mod status;

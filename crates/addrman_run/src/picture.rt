@@ -45,16 +45,16 @@ fn chain_name(chain: Chain) -> &'static [u8]
 
 /// The picture of a view.
 #[derive(Drop)]
-struct Picture {
+struct Drawing {
     colours: Colours,
     chain: Chain,
 }
 
-impl ViewText for Picture {
+impl ViewText for Drawing {
     ghost use Rattle.std.specs.Prelude.{⊤};
 
-    ghost is_text = { λ picture view text.
-        text ≡ picture_for picture.colours picture.chain view };
+    ghost is_text = { λ drawing view text.
+        text ≡ picture_for drawing.colours drawing.chain view };
 
     ghost ready = { λ _. ⊤ };
 
@@ -103,6 +103,6 @@ pub(crate) fn picture<F: Folder, K: Sink, H: BuildHasher + Drop>(
     ensures same { F.past folder.new ≡ F.past folder.old }
 {
     let chain = chain_of(from);
-    let picture = Picture { colours, chain };
-    write_view(alloc, hasher, &picture, from, folder, out, learned)
+    let drawing = Drawing { colours, chain };
+    write_view(alloc, hasher, &drawing, from, folder, out, learned)
 }
