@@ -423,7 +423,10 @@ class Run:
         """The slots of the listing that standard input has."""
         data = b""
         while len(data) <= raw_rows.MAXIMUM_BYTES:
-            piece = self.read()
+            try:
+                piece = self.read()
+            except OSError:
+                raise Stop(7, "log cannot be read")
             if not piece:
                 break
             data += piece

@@ -22,8 +22,6 @@ use Rattle.ban_list.specs.declared.read_file.TheConstants as bans
 use Rattle.ban_list.specs.declared.ban.BanRule.{BanRule}
 use Rattle.raw_file.specs.declared.fault.ListingFault.TheVariants.{Text}
 use Rattle.raw_read.specs.Raw.{HasRawFault}
-use Rattle.raw_read.specs.declared.raw.RawFault.TheVariants as raw_fault
-use Rattle.raw_read.specs.declared.read.TheConstants as raw
 use Rattle.addrman_run.specs.Bans.{IsListIn, RefusesBans, Change}
 use Rattle.addrman_run.specs.Diff.{AsksRecords, RefusesRecords, ReportsDiff}
 use Rattle.addrman_run.specs.Compile.{IsCompiled, IsInPlace, compile_text}
@@ -82,7 +80,7 @@ max_of input.Prefixes = MAX_TEXT
 max_of input.Peers = MAX_FILE
 max_of input.Bans = bans.MAX_FILE
 max_of input.Anchors = anchors.MAX_FILE
-max_of input.Listing = raw.MAX_TEXT
+max_of input.Listing = raw_read.MAX_TEXT
 
 -- the status for a file of more bytes
 abbrev pub too_large_of : Input → ℕ → Status
@@ -92,7 +90,7 @@ too_large_of input.Prefixes size = TableRefused (Rows (table.TooLarge size))
 too_large_of input.Peers size = PeersRefused (File (peers.TooLarge size))
 too_large_of input.Bans size = BansRefused (ban.TooLarge size)
 too_large_of input.Anchors size = AnchorsRefused (anchors_fault.TooLarge size)
-too_large_of input.Listing size = RawRefused (Text raw_fault.TooLarge)
+too_large_of input.Listing size = RawRefused (Text raw.TooLarge)
 
 -- the file has these bytes, within its limit
 abbrev pub IsLoaded : Input → Option Past → List ℕ → Type 0
@@ -149,7 +147,7 @@ IsNoTables chain past other = ReportsTables chain past other
 
 -- why the bytes of a listing are refused
 abbrev pub IsNoRaw : List ℕ → Status → Type 0
-IsNoRaw bytes (RawRefused (Text fault)) = (fault ≢ raw_fault.Memory) × HasRawFault bytes fault
+IsNoRaw bytes (RawRefused (Text fault)) = (fault ≢ raw.Memory) × HasRawFault bytes fault
 IsNoRaw bytes Memory = ⊤
 IsNoRaw bytes other = ⊥
 
