@@ -35,6 +35,7 @@ too_large IsLine Refuses input.Prefixes past written size refused = (refused, re
 too_large IsLine Refuses input.Peers past written size refused = (refused, refl)
 too_large IsLine Refuses input.Bans past written size refused = (refused, refl)
 too_large IsLine Refuses input.Anchors past written size refused = (refused, refl)
+too_large IsLine Refuses input.Listing past written size refused = (refused, refl)
 
 -- the file was not loaded
 pub no_file : (IsLine : Option Past → List ℕ → Type 0) (Refuses : Option Past → Status → Type 0) (file : Input) (past : Option Past) (written : Option (List ℕ)) (status : Status) →

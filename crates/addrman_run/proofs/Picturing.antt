@@ -1,21 +1,25 @@
 -- What a picture writes, by how it ends.
-use Rattle.std.proofs.Common.{◌≡◌, ℕ, List, refl, sym, subst, inl, inr}
-use Rattle.std.specs.Prelude.{All, Option, Some, None, codes}
+use Rattle.std.proofs.Common.{◌≡◌, ℕ, List, Bool, true, false, refl, sym, subst}
+use Rattle.std.specs.Prelude.{IfSome, Option, Some, None, codes}
 use Rattle.host_io.specs.Past.{Past}
-use Rattle.arguments.specs.declared.colouring.Colouring.{Colouring}
-use Rattle.arguments.specs.declared.file_kind.FileKind.{FileKind}
-use Rattle.peer_rec.specs.Rec.{IsRec}
+use Rattle.arguments.specs.declared.colours.Colours.{Colours}
+use Rattle.arguments.specs.declared.colours.Colours.TheVariants.{Plain, By, Marks}
+use Rattle.arguments.specs.declared.tables_from.TablesFrom.{TablesFrom}
+use Rattle.arguments.specs.declared.tables_from.TablesFrom.TheVariants.{File, Listing}
+use Rattle.net_addr.specs.Address.{IsAddress}
+use Rattle.peer_rec.specs.declared.rec.Rec.{Rec}
 use Rattle.peers_file.specs.declared.chain.Chain.{Chain}
 use Rattle.peers_file.specs.declared.chain.Chain.TheVariants.{Main, Test, Testnet4, Signet, Regtest, Other}
-use Rattle.picture_laws.proofs.Trees.{tree-by, tree-of}
+use Rattle.picture_laws.proofs.Trees.{has-addresses, tree-by-view, tree-of-view}
+use Rattle.picture_laws.specs.Slots.{HasAddresses, HasPeers, HasSources}
 use Rattle.picture_text.specs.Markup.{IsPlain, IsTree}
-use Rattle.table_groups.specs.View.{view_of}
-use Rattle.table_machine.specs.State.{State}
-use Rattle.addrman_run.proofs.TextOuts.{text_out}
-use Rattle.addrman_run.specs.Inside.{TextEnds}
-use Rattle.addrman_run.specs.Opening.{Opened, ReportsTables}
+use Rattle.raw_view.proofs.Addresses.{listed-peers}
+use Rattle.table_groups.specs.View.{View, occupant_at}
+use Rattle.addrman_run.proofs.TextOuts.{text_so}
+use Rattle.addrman_run.specs.Listing.{keyless_places}
 use Rattle.addrman_run.specs.Picture.{IsPicture, by_of, chain_name, picture_for}
 use Rattle.addrman_run.specs.TextOut.{TextOut}
+use Rattle.addrman_run.specs.Views.{IsView, IsViewText, ReportsView, chain_of}
 use Rattle.addrman_run.specs.declared.status.Status.{Status}
 
 plain-chain : (chain : Chain) → IsPlain (chain_name chain)
@@ -26,14 +30,27 @@ plain-chain Signet = refl
 plain-chain Regtest = refl
 plain-chain (Other magic) = refl
 
-tree-for : (by : Option Colouring) (chain : Chain) (st : State) → All IsRec st.records → IsTree (codes "svg") (picture_for by chain (view_of st))
-tree-for None chain st each = tree-of st each
-tree-for (Some by) chain st each = tree-by (by_of by) (chain_name chain) st (plain-chain chain) each
+-- the sources and peers of the records that are looked at have addresses
+view-peers : (from : TablesFrom) (past : Option Past) (view : View) → IsView from past view → HasPeers view
+view-peers (File kind) past view is = subst HasPeers (sym is.2) (has-addresses is.0 is.1.sound.records)
+view-peers (Listing chain) past view is = subst HasPeers (sym is.is) (listed-peers (keyless_places is.map) is.is_in.0 is.raw is.is_in.2)
 
--- the text is made and written, or memory ran out
-pub made : (by : Option Colouring) (kind : FileKind) (past : Option Past) (old new : Option (List ℕ)) (st : State) (status : Status) → Opened None kind past st
-    → TextEnds (picture_for by kind.chain (view_of st)) old new status → TextOut (IsPicture by kind) (ReportsTables kind.chain) past old new status
-made by kind past old new st status opened (inl none) = subst (TextOut (IsPicture by kind) (ReportsTables kind.chain) past old new) (sym none.0) none.1
-made by kind past old new st status opened (inr written) =
-    text_out (IsPicture by kind) (ReportsTables kind.chain) past (picture_for by kind.chain (view_of st)) old new status
-    (record { tables = st; opened = opened; is = refl; tree = tree-for by kind.chain st opened.sound.records }) written
+source-of : (o : Option Rec) → IfSome o HasAddresses → IfSome o (λ r. IsAddress r.source)
+source-of None is = tt
+source-of (Some r) is = is.0
+
+sources-of : (view : View) → HasPeers view → HasSources view
+sources-of view each in_new bucket slot = source-of (occupant_at view in_new bucket slot) (each in_new bucket slot)
+
+tree-for : (colours : Colours) (chain : Chain) (view : View) → HasPeers view → IsTree (codes "svg") (picture_for colours chain view)
+tree-for Plain chain view each = tree-of-view view (sources-of view each)
+tree-for (By by) chain view each = tree-by-view (by_of by) (chain_name chain) view (plain-chain chain) each
+tree-for (Marks marks) chain view each = tree-of-view view (sources-of view each)
+
+-- what is written is a picture, and so the text of a tree
+pub drawn : (colours : Colours) (from : TablesFrom) (past : Option Past) (old new : Option (List ℕ)) (status : Status)
+    → TextOut (IsViewText (λ view text. text ≡ picture_for colours (chain_of from) view) from) (ReportsView from) past old new status
+    → TextOut (IsViewText (IsPicture colours (chain_of from)) from) (ReportsView from) past old new status
+drawn colours from past old new status =
+    text_so (IsViewText (λ view text. text ≡ picture_for colours (chain_of from) view) from) (IsViewText (IsPicture colours (chain_of from)) from) (ReportsView from) past old new status
+    (λ text is. (is.0, is.1, record { is = is.2; tree = subst (IsTree (codes "svg")) (sym is.2) (tree-for colours (chain_of from) is.0 (view-peers from past is.0 is.1)) }))

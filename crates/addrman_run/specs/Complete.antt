@@ -1,6 +1,6 @@
 -- When a run has to do what it is asked for: nothing is wrong with the log and the files, and
 -- nothing fails.
-use Rattle.std.specs.Prelude.{◌≡◌, ◌⊎◌, ◌≤◌, ℕ, List, All, length, Option, Some, ⊤, option_map}
+use Rattle.std.specs.Prelude.{◌≡◌, ◌⊎◌, ◌≤◌, ℕ, List, All, length, Option, Some, None, ⊤, option_map}
 use Rattle.addr_limit.specs.Lines.{SaysEvent}
 use Rattle.addr_limit.specs.declared.command.Event.{Event}
 use Rattle.arguments.specs.declared.grouping.Grouping.{Grouping}
@@ -20,6 +20,10 @@ use Rattle.net_addr.specs.Address as net
 use Rattle.net_addr.specs.declared.peer.Peer.{Peer}
 use Rattle.opener_lines.specs.Grammar.{LineAsks}
 use Rattle.opener_lines.specs.declared.command.OpenerCommand as opener
+use Rattle.raw_file.specs.Listing.{first_fault}
+use Rattle.raw_read.specs.Raw.{IsRaw}
+use Rattle.raw_read.specs.declared.read.TheConstants.{MAX_TEXT}
+use Rattle.raw_read.specs.declared.row.Raw as rows
 use Rattle.risk_parts.specs.Sets.{IsSetText}
 use Rattle.risk_parts.specs.declared.addr_set.AddrSet.{AddrSet}
 use Rattle.session.specs.History.{failed}
@@ -34,8 +38,9 @@ use Rattle.addrman_run.specs.Opening.{ReportsOpening, ReportsTables}
 use Rattle.addrman_run.specs.Replay.{Replayed}
 use Rattle.addrman_run.specs.Show.{ReportsPeers}
 use Rattle.addrman_run.specs.Tables.{ReportsTable}
+use Rattle.addrman_run.specs.Views.{ReportsView}
 use Rattle.arguments.specs.declared.request.Request.{Request}
-use Rattle.arguments.specs.declared.request.Request.TheVariants.{Show, Anchors, Picture, Raw, Info, Groups, Risk, Replay, Opener, Compile, Check, Lookup, LookupLines, Address, AddressLines, Decompile, Diff, Limit, Ban, Unban, Banned, Bans}
+use Rattle.arguments.specs.declared.request.Request.TheVariants.{Show, Anchors, Picture, Raw, Info, Groups, Risk, FromRaw, Replay, Opener, Compile, Check, Lookup, LookupLines, Address, AddressLines, Decompile, Diff, Limit, Ban, Unban, Banned, Bans}
 use Rattle.addrman_run.specs.declared.status.Status.{Status}
 use Rattle.addrman_run.specs.declared.status.Status.TheVariants.{Done, Memory}
 
@@ -74,6 +79,16 @@ pub record IsGoodLog (IsLine : List ℕ → Type 0) (left : Option (List ℕ)) :
   pub short : All (λ line. length line ≤ MAX_LINE) (lines_of log)
   pub right : All IsLine (lines_of log)
 
+-- Contracts know the input of `from-raw`. It is within its limit, a text of slots and their records,
+-- and no peer is there again.
+pub record IsGoodListing (left : Option (List ℕ)) : Type 0 where
+  pub text : List ℕ
+  pub known : left ≡ Some text
+  pub within : length text ≤ MAX_TEXT
+  pub raw : rows.Raw
+  pub right : IsRaw text raw
+  pub once : first_fault raw ≡ None
+
 -- THE FILES
 
 -- No status reports a refusal. If contracts don't know the files, a refusal is never ruled out.
@@ -111,23 +126,30 @@ NothingIsWrong AddressLines at =
     IsGoodLog IsAddressLine at.left × NoRefusal (ReportsAsmap at.past)
 NothingIsWrong (Show keyed kind) at = IsUsable name.Peers (ReportsPeers kind.chain) at.past
 NothingIsWrong (Anchors chain) at = IsUsable name.Peers (ReportsAnchors chain) at.past
-NothingIsWrong (Picture by kind) at = NoRefusal (ReportsTables kind.chain at.past)
+NothingIsWrong (Picture colours from) at = NoRefusal (ReportsView from at.past)
 NothingIsWrong (Raw kind) at = NoRefusal (ReportsTables kind.chain at.past)
-NothingIsWrong (Info kind) at = NoRefusal (ReportsTables kind.chain at.past)
-NothingIsWrong (Groups kind) at = NoRefusal (ReportsTables kind.chain at.past)
-NothingIsWrong (Risk by kind) at =
-    NoRiskFault by at.left × NoRefusal (ReportsTables kind.chain at.past)
+NothingIsWrong (Info from) at = NoRefusal (ReportsView from at.past)
+NothingIsWrong (Groups from) at = NoRefusal (ReportsView from at.past)
+NothingIsWrong (Risk by from) at =
+    NoRiskFault by at.left × NoRefusal (ReportsView from at.past)
+NothingIsWrong (FromRaw key kind) at = IsGoodListing at.left × NoRefusal (ReportsAsmap at.past)
 NothingIsWrong (Ban rule subnet now until) at = NoRefusal (ReportsBans rule at.past)
 NothingIsWrong (Unban rule subnet) at = NoRefusal (ReportsBans rule at.past)
 NothingIsWrong (Banned rule peer now) at = NoRefusal (ReportsBans rule at.past)
 NothingIsWrong (Bans rule now) at = NoRefusal (ReportsBans rule at.past)
 NothingIsWrong other at = ⊤
 
--- No count of faults rose; that of the folder may have risen after bytes of the log were taken.
-pub record NothingFails (old new : Outside) : Type 0 where
+-- The folder may not fail: before bytes of the log are taken, since a replay goes on when a save
+-- fails; and `from-raw`, which saves when all of the log is read, needs it to its end.
+abbrev pub NeedsFolder : Request → Outside → Outside → Type 0
+NeedsFolder (FromRaw key kind) old new = ⊤
+NeedsFolder other old new = new.left ≡ old.left
+
+-- No count of faults rose; that of the folder may have risen once the request needs it no more.
+pub record NothingFails (request : Request) (old new : Outside) : Type 0 where
   pub log : ¬ Rose old.log_faults new.log_faults
   pub out : ¬ Rose old.out_faults new.out_faults
-  pub folder : new.left ≡ old.left → ¬ Rose old.folder_faults new.folder_faults
+  pub folder : NeedsFolder request old new → ¬ Rose old.folder_faults new.folder_faults
 
 -- No save of a replay failed, unless the folder's count rose.
 abbrev pub NoSaveFails : Request → Outside → Outside → Type 0
@@ -138,5 +160,6 @@ NoSaveFails other old new = ⊤
 
 -- If nothing is wrong and nothing fails, the run is done, or memory ran out.
 pub record IsComplete (request : Request) (old new : Outside) (answer : Status) : Type 0 where
-  pub done : NothingIsWrong request old → NothingFails old new → (answer ≡ Done) ⊎ (answer ≡ Memory)
+  pub done : NothingIsWrong request old → NothingFails request old new
+      → (answer ≡ Done) ⊎ (answer ≡ Memory)
   pub saved : NoSaveFails request old new

@@ -20,10 +20,14 @@ use Rattle.anchors.specs.declared.read.TheConstants as anchors
 use Rattle.ban_list.specs.declared.fault.BanFault.TheVariants as ban
 use Rattle.ban_list.specs.declared.read_file.TheConstants as bans
 use Rattle.ban_list.specs.declared.ban.BanRule.{BanRule}
+use Rattle.raw_file.specs.declared.fault.ListingFault.TheVariants.{Text}
+use Rattle.raw_read.specs.Raw.{HasRawFault}
 use Rattle.addrman_run.specs.Bans.{IsListIn, RefusesBans, Change}
 use Rattle.addrman_run.specs.Diff.{AsksRecords, RefusesRecords, ReportsDiff}
 use Rattle.addrman_run.specs.Compile.{IsCompiled, IsInPlace, compile_text}
+use Rattle.addrman_run.specs.FromRaw.{from_raw_text}
 use Rattle.addrman_run.specs.InFolder.{IsFileIn, IsAbsent, IsTooLarge}
+use Rattle.addrman_run.specs.Listing.{ReportsListing}
 use Rattle.addrman_run.specs.Tables.{RefusesTable}
 use Rattle.prefix_table.specs.declared.read.TheConstants.{MAX_TEXT}
 use Rattle.addrman_run.specs.declared.input.Input.{Input}
@@ -31,6 +35,7 @@ use Rattle.addrman_run.specs.declared.input.Input.TheVariants as input
 use Rattle.addrman_run.specs.declared.tables_fault.TablesFault.{TablesFault}
 use Rattle.addrman_run.specs.declared.tables_fault.TablesFault.TheVariants.{Rows}
 use Rattle.addrman_run.specs.declared.peers_fault.PeersFault.TheVariants.{Duplicate, File}
+use Rattle.addrman_run.specs.Asmaps.{IsMapIn}
 use Rattle.addrman_run.specs.Opening.{ReportsTables, places_of, tables_of}
 use Rattle.log_run.specs.Run.{Run}
 use Rattle.log_run.specs.declared.run.LogEnd.{LogEnd}
@@ -42,12 +47,20 @@ use Rattle.session.specs.State.{LineStep}
 use Rattle.sha2.specs.Sha256.{sha256}
 use Rattle.peer_rec.specs.Snapshot.{Snapshot}
 use Rattle.peers_file.specs.Layout.{IsFile, HasFileFault}
+use Rattle.peers_file.specs.Texts.{file_text}
+use Rattle.placing.specs.Places.{sum_by}
+use Rattle.placing.specs.declared.sum.SumRule.{SumRule}
+use Rattle.raw_file.specs.Faults.{HasListingFault, IsListing}
+use Rattle.raw_file.specs.Input.{IsLong}
+use Rattle.raw_file.specs.declared.fault.ListingFault.TheVariants as listing
+use Rattle.raw_read.specs.declared.raw.RawFault.TheVariants as raw
+use Rattle.raw_read.specs.declared.read.TheConstants as raw_read
 use Rattle.peers_file.specs.declared.chain.Chain.{Chain}
 use Rattle.arguments.specs.declared.file_kind.FileKind.{FileKind}
 use Rattle.table_machine.specs.State.{State, empty_state}
 use Rattle.table_machine.specs.Restoring.{duplicate}
 use Rattle.addrman_run.specs.declared.status.Status.{Status}
-use Rattle.addrman_run.specs.declared.status.Status.TheVariants.{PeersRefused, BansRefused, OldAsmapRefused, AnchorsRefused, Done, LogLine, LineTooLong, LogTooLong, AsmapRefused, TableRefused, ReadFault, WriteFault, DiskFault, Memory, NoFile, NoKey}
+use Rattle.addrman_run.specs.declared.status.Status.TheVariants.{PeersRefused, BansRefused, OldAsmapRefused, AnchorsRefused, RawRefused, Done, LogLine, LineTooLong, LogTooLong, AsmapRefused, TableRefused, ReadFault, WriteFault, DiskFault, Memory, NoFile, NoKey}
 
 -- the name of a file that commands load
 abbrev pub name_of : Input → Name
@@ -57,6 +70,7 @@ name_of input.Prefixes = name.Prefixes
 name_of input.Peers = name.Peers
 name_of input.Bans = name.Bans
 name_of input.Anchors = name.Peers
+name_of input.Listing = name.Peers
 
 -- the maximum size of it in bytes
 abbrev pub max_of : Input → ℕ
@@ -66,6 +80,7 @@ max_of input.Prefixes = MAX_TEXT
 max_of input.Peers = MAX_FILE
 max_of input.Bans = bans.MAX_FILE
 max_of input.Anchors = anchors.MAX_FILE
+max_of input.Listing = raw_read.MAX_TEXT
 
 -- the status for a file of more bytes
 abbrev pub too_large_of : Input → ℕ → Status
@@ -75,6 +90,7 @@ too_large_of input.Prefixes size = TableRefused (Rows (table.TooLarge size))
 too_large_of input.Peers size = PeersRefused (File (peers.TooLarge size))
 too_large_of input.Bans size = BansRefused (ban.TooLarge size)
 too_large_of input.Anchors size = AnchorsRefused (anchors_fault.TooLarge size)
+too_large_of input.Listing size = RawRefused (Text raw.TooLarge)
 
 -- the file has these bytes, within its limit
 abbrev pub IsLoaded : Input → Option Past → List ℕ → Type 0
@@ -128,6 +144,18 @@ abbrev pub IsNoTables : Chain → Option Past → Status → Type 0
 IsNoTables chain past DiskFault = ⊤
 IsNoTables chain past Memory = ⊤
 IsNoTables chain past other = ReportsTables chain past other
+
+-- why the bytes of a listing are refused
+abbrev pub IsNoRaw : List ℕ → Status → Type 0
+IsNoRaw bytes (RawRefused (Text fault)) = (fault ≢ raw.Memory) × HasRawFault bytes fault
+IsNoRaw bytes Memory = ⊤
+IsNoRaw bytes other = ⊥
+
+-- Why there is no view of a listing, by the status.
+abbrev pub IsNoListing : Option Past → Status → Type 0
+IsNoListing past DiskFault = ⊤
+IsNoListing past Memory = ⊤
+IsNoListing past other = ReportsListing past other
 
 -- why no tables are opened, by the bytes of the file
 abbrev pub IsNotOpened : Option (List ℕ) → Chain → Option (List ℕ) → Status → Type 0
@@ -245,3 +273,27 @@ HasReplies old lines new bytes sum =
     (text : List ℕ) × (ended : List Ended)
     × Run HistoryStep (fresh old) lines text (record { now = new; ended = ended })
     × (bytes ≡ length text) × (sum ≡ sha256 text)
+
+-- the checksum of the folder's asmap, by a rule
+abbrev pub IsSumIn : SumRule → Option Past → List ℕ → Type 0
+IsSumIn rule past sum = (map : Option Asmap) × IsMapIn past map × (sum ≡ sum_by rule map)
+
+-- Why the text of a listing is not read, by the status. HasCause says why reading fails.
+abbrev pub IsNoInput : Option (List ℕ) → Option (List ℕ) → Status → Type 0
+IsNoInput before after (RawRefused why) =
+    (why ≡ listing.Text raw.TooLarge) × IsLong raw_read.MAX_TEXT before after
+IsNoInput before after ReadFault = ⊤
+IsNoInput before after Memory = ⊤
+IsNoInput before after other = ⊥
+
+-- the file of a listing, and the line about it
+abbrev pub IsListedFile : List ℕ → List ℕ → Chain → List ℕ → List ℕ → List ℕ → Type 0
+IsListedFile key sum chain text file line =
+    (snap : Snapshot) × IsListing key sum text snap × (file ≡ file_text chain snap)
+    × (line ≡ from_raw_text snap file)
+
+-- why the text of a listing gives no file
+abbrev pub IsNotListed : List ℕ → Status → Type 0
+IsNotListed text (RawRefused why) = (why ≢ listing.Memory) × HasListingFault text why
+IsNotListed text Memory = ⊤
+IsNotListed text other = ⊥

@@ -20,8 +20,11 @@ pub mod Decompile
 pub mod Diff
 pub mod Compile
 pub mod Bans
+pub mod FromRaw
 pub mod Show
 pub mod Anchors
+pub mod Listing
+pub mod Views
 pub mod Picture
 pub mod Risk
 pub mod RiskLines

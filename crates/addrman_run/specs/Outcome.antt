@@ -17,15 +17,15 @@ use Rattle.addrman_run.specs.Opener.{OpenerEnds}
 use Rattle.addrman_run.specs.Show.{ShowEnds}
 use Rattle.addrman_run.specs.Anchors.{AnchorsEnds}
 use Rattle.addrman_run.specs.Picture.{PictureEnds}
-use Rattle.addrman_run.specs.Risk.{RiskEnds}
-use Rattle.addrman_run.specs.TablesJson.{TablesJsonEnds}
-use Rattle.addrman_run.specs.declared.tables_json.TablesJson.TheVariants as json
+use Rattle.addrman_run.specs.Risk.{RiskFromEnds}
+use Rattle.addrman_run.specs.FromRaw.{FromRawEnds}
+use Rattle.addrman_run.specs.TablesJson.{GroupsEnds, InfoEnds, RawEnds}
 use Rattle.addrman_run.specs.Generate.{GenEnds}
 use Rattle.addrman_run.specs.Help.{HelpEnds, VersionEnds}
 use Rattle.addrman_run.specs.Trial.{TrialEnds}
 use Rattle.addrman_run.specs.Bans.{BansEnds, ListEnds, ban_change, unban_change, banned_change}
 use Rattle.arguments.specs.declared.request.Request.{Request}
-use Rattle.arguments.specs.declared.request.Request.TheVariants.{Show, Anchors, Picture, Raw, Info, Groups, Risk}
+use Rattle.arguments.specs.declared.request.Request.TheVariants.{Show, Anchors, Picture, Raw, Info, Groups, Risk, FromRaw}
 use Rattle.arguments.specs.declared.request.Request.TheVariants.{Replay, Opener, Compile, Check, Lookup, LookupLines, Address, AddressLines}
 use Rattle.arguments.specs.declared.request.Request.TheVariants.{Decompile, Diff, Limit}
 use Rattle.arguments.specs.declared.request.Request.TheVariants.{Ban, Unban, Banned, Bans}
@@ -48,11 +48,12 @@ Ends (Address addr) old new answer = AddressEnds addr old new answer
 Ends AddressLines old new answer = AddressLinesEnds old new answer
 Ends (Show keyed kind) old new answer = ShowEnds keyed kind.chain old new answer
 Ends (Anchors chain) old new answer = AnchorsEnds chain old new answer
-Ends (Picture by kind) old new answer = PictureEnds by kind old new answer
-Ends (Raw kind) old new answer = TablesJsonEnds json.Raw kind old new answer
-Ends (Info kind) old new answer = TablesJsonEnds json.Info kind old new answer
-Ends (Groups kind) old new answer = TablesJsonEnds json.Groups kind old new answer
-Ends (Risk by kind) old new answer = RiskEnds by kind old new answer
+Ends (Picture colours from) old new answer = PictureEnds colours from old new answer
+Ends (Raw kind) old new answer = RawEnds kind old new answer
+Ends (Info from) old new answer = InfoEnds from old new answer
+Ends (Groups from) old new answer = GroupsEnds from old new answer
+Ends (Risk by from) old new answer = RiskFromEnds by from old new answer
+Ends (FromRaw key kind) old new answer = FromRawEnds key kind old new answer
 Ends (Ban rule subnet now until) old new answer =
     BansEnds rule (ban_change rule (ban_of subnet now until)) old new answer
 Ends (Unban rule subnet) old new answer = BansEnds rule (unban_change subnet) old new answer

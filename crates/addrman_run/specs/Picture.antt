@@ -1,20 +1,19 @@
 -- What a picture of the tables writes, and how it ends.
-use Rattle.std.specs.Prelude.{◌≡◌, ℕ, List, Option, Some, None, codes}
+use Rattle.std.specs.Prelude.{◌≡◌, ℕ, List, codes}
 use Rattle.host_io.specs.Outside.{Outside}
-use Rattle.host_io.specs.Past.{Past}
 use Rattle.arguments.specs.declared.colouring.Colouring.{Colouring}
 use Rattle.arguments.specs.declared.colouring.Colouring.TheVariants as colouring
-use Rattle.arguments.specs.declared.file_kind.FileKind.{FileKind}
+use Rattle.arguments.specs.declared.colours.Colours.{Colours}
+use Rattle.arguments.specs.declared.colours.Colours.TheVariants as colours
+use Rattle.arguments.specs.declared.tables_from.TablesFrom.{TablesFrom}
 use Rattle.peers_file.specs.declared.chain.Chain.{Chain}
 use Rattle.peers_file.specs.declared.chain.Chain.TheVariants.{Main, Test, Testnet4, Signet, Regtest, Other}
 use Rattle.picture_text.specs.Markup.{IsTree}
 use Rattle.picture_text.specs.declared.by.By.{By}
 use Rattle.picture_text.specs.declared.by.By.TheVariants.{Network, Source, Group, Age}
-use Rattle.table_groups.specs.View.{View, view_of}
-use Rattle.table_machine.specs.State.{State}
+use Rattle.table_groups.specs.View.{View}
 use Rattle.table_picture.specs.Picture.{picture_by, picture_of}
-use Rattle.addrman_run.specs.Opening.{Opened}
-use Rattle.addrman_run.specs.TextOut.{TablesTextEnds}
+use Rattle.addrman_run.specs.Views.{ViewTextEnds, chain_of}
 use Rattle.addrman_run.specs.declared.status.Status.{Status}
 
 -- what the colours go by
@@ -34,18 +33,15 @@ chain_name Regtest = codes "regtest"
 chain_name (Other magic) = codes "of other first bytes"
 
 -- the picture, in which colours go by the source groups, or by what is chosen
-abbrev pub picture_for : Option Colouring → Chain → View → List ℕ
-picture_for None chain view = picture_of view
-picture_for (Some by) chain view = picture_by (by_of by) (chain_name chain) view
+abbrev pub picture_for : Colours → Chain → View → List ℕ
+picture_for colours.Plain chain view = picture_of view
+picture_for (colours.By by) chain view = picture_by (by_of by) (chain_name chain) view
+picture_for (colours.Marks marks) chain view = picture_of view
 
--- the picture of the tables that the folder's peers.dat and asmap.dat open, the text of one tree
--- of elements
-pub record IsPicture (by : Option Colouring) (kind : FileKind) (past : Option Past)
-    (text : List ℕ) : Type 0 where
-  pub tables : State
-  pub opened : Opened None kind past tables
-  pub is : text ≡ picture_for by kind.chain (view_of tables)
+-- the picture of a view, the text of one tree of elements
+pub record IsPicture (colours : Colours) (chain : Chain) (view : View) (text : List ℕ) : Type 0 where
+  pub is : text ≡ picture_for colours chain view
   pub tree : IsTree (codes "svg") text
 
-abbrev pub PictureEnds : Option Colouring → FileKind → Outside → Outside → Status → Type 0
-PictureEnds by kind = TablesTextEnds (IsPicture by kind) kind.chain
+abbrev pub PictureEnds : Colours → TablesFrom → Outside → Outside → Status → Type 0
+PictureEnds colours from = ViewTextEnds (IsPicture colours (chain_of from)) from

@@ -5,11 +5,13 @@ use Rattle.host_io.specs.Past.{Past}
 use Rattle.arguments.specs.declared.file_kind.FileKind.{FileKind}
 use Rattle.arguments.specs.declared.grouping.Grouping.{Grouping}
 use Rattle.arguments.specs.declared.grouping.Grouping.TheVariants as grouping
+use Rattle.arguments.specs.declared.tables_from.TablesFrom.{TablesFrom}
+use Rattle.arguments.specs.declared.tables_from.TablesFrom.TheVariants.{File, Listing}
 use Rattle.table_machine.specs.State.{State}
 use Rattle.table_risk.specs.Texts.{IsRiskText}
 use Rattle.table_risk.specs.declared.by.By.{By}
 use Rattle.table_risk.specs.declared.by.By.TheVariants.{Source, Peer, Network}
-use Rattle.addrman_run.specs.Opening.{Opened}
+use Rattle.addrman_run.specs.Opening.{Opened, ReportsTables}
 use Rattle.addrman_run.specs.RiskLines.{RiskLinesEnds}
 use Rattle.addrman_run.specs.TextOut.{TablesTextEnds}
 use Rattle.addrman_run.specs.declared.risk.TheConstants.{AFTER_RESTART}
@@ -24,12 +26,17 @@ IsRisk by kind past text =
 
 -- how it ends, for groups of the records or for the sets that the log names
 abbrev pub RiskEnds : Grouping → FileKind → Outside → Outside → Status → Type 0
-RiskEnds grouping.Source kind = TablesTextEnds (IsRisk Source kind) kind.chain
-RiskEnds grouping.Peer kind = TablesTextEnds (IsRisk Peer kind) kind.chain
-RiskEnds grouping.Network kind = TablesTextEnds (IsRisk Network kind) kind.chain
+RiskEnds grouping.Source kind = TablesTextEnds (IsRisk Source kind) (ReportsTables kind.chain)
+RiskEnds grouping.Peer kind = TablesTextEnds (IsRisk Peer kind) (ReportsTables kind.chain)
+RiskEnds grouping.Network kind = TablesTextEnds (IsRisk Network kind) (ReportsTables kind.chain)
 RiskEnds grouping.Sets kind = RiskLinesEnds kind
 
 -- the log is not read for groups
 abbrev pub AsksNoLog : Grouping → Type 0
 AsksNoLog grouping.Sets = ⊥
 AsksNoLog other = ⊤
+
+-- the same of the tables of peers.dat or of a listing
+abbrev pub RiskFromEnds : Grouping → TablesFrom → Outside → Outside → Status → Type 0
+RiskFromEnds by (File kind) = RiskEnds by kind
+RiskFromEnds by (Listing chain) = λ old new answer. ⊤

@@ -1,30 +1,38 @@
--- What the commands write that print the tables of peers.dat as JSON, and how they end.
+-- What the commands write that print the tables as JSON, and how they end.
 use Rattle.std.specs.Prelude.{ℕ, List, Option, None}
-use Rattle.host_io.specs.Past.{Past}
+use Rattle.arguments.specs.declared.file_kind.FileKind.{FileKind}
+use Rattle.arguments.specs.declared.tables_from.TablesFrom.{TablesFrom}
 use Rattle.host_io.specs.Outside.{Outside}
-use Rattle.json.specs.Json.{Json}
+use Rattle.host_io.specs.Past.{Past}
 use Rattle.node_json.specs.Groups.{groups_json}
 use Rattle.node_json.specs.Info.{info_json}
 use Rattle.node_json.specs.Raw.{raw_json}
 use Rattle.node_json.specs.Value.{IsJsonText}
-use Rattle.arguments.specs.declared.file_kind.FileKind.{FileKind}
-use Rattle.table_groups.specs.View.{view_of}
+use Rattle.table_groups.specs.View.{View}
 use Rattle.table_machine.specs.State.{State}
-use Rattle.addrman_run.specs.Opening.{Opened}
+use Rattle.addrman_run.specs.Opening.{Opened, ReportsTables}
 use Rattle.addrman_run.specs.TextOut.{TablesTextEnds}
+use Rattle.addrman_run.specs.Views.{ViewTextEnds}
 use Rattle.addrman_run.specs.declared.status.Status.{Status}
-use Rattle.addrman_run.specs.declared.tables_json.TablesJson.{TablesJson}
-use Rattle.addrman_run.specs.declared.tables_json.TablesJson.TheVariants.{Raw, Info, Groups}
 
-abbrev pub json_of : TablesJson → State → Json
-json_of Raw st = raw_json st
-json_of Info st = info_json (view_of st)
-json_of Groups st = groups_json (view_of st)
+-- a text of the slots of the tables that the folder's peers.dat and asmap.dat open
+abbrev pub IsRawText : FileKind → Option Past → List ℕ → Type 0
+IsRawText kind past text =
+    (tables : State) × Opened None kind past tables × IsJsonText (raw_json tables) text
 
--- a text of the tables that the folder's peers.dat and asmap.dat open
-abbrev pub IsTablesText : TablesJson → FileKind → Option Past → List ℕ → Type 0
-IsTablesText which kind past text =
-    (tables : State) × Opened None kind past tables × IsJsonText (json_of which tables) text
+abbrev pub RawEnds : FileKind → Outside → Outside → Status → Type 0
+RawEnds kind = TablesTextEnds (IsRawText kind) (ReportsTables kind.chain)
 
-abbrev pub TablesJsonEnds : TablesJson → FileKind → Outside → Outside → Status → Type 0
-TablesJsonEnds which kind = TablesTextEnds (IsTablesText which kind) kind.chain
+-- how many records each network has in what is looked at
+abbrev pub IsInfoText : View → List ℕ → Type 0
+IsInfoText view = IsJsonText (info_json view)
+
+abbrev pub InfoEnds : TablesFrom → Outside → Outside → Status → Type 0
+InfoEnds = ViewTextEnds IsInfoText
+
+-- how many slots, buckets and records each group has
+abbrev pub IsGroupsText : View → List ℕ → Type 0
+IsGroupsText view = IsJsonText (groups_json view)
+
+abbrev pub GroupsEnds : TablesFrom → Outside → Outside → Status → Type 0
+GroupsEnds = ViewTextEnds IsGroupsText

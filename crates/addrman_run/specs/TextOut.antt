@@ -3,10 +3,8 @@ use Rattle.std.specs.Prelude.{◌≡◌, ℕ, List, Option}
 use Rattle.host_io.specs.Past.{Past}
 use Rattle.host_io.specs.Outside.{Outside}
 use Rattle.host_io.specs.Writing.{Appended, AppendedPart}
-use Rattle.peers_file.specs.declared.chain.Chain.{Chain}
 use Rattle.addrman_run.specs.InFolder.{ReportsNoPeers}
 use Rattle.addrman_run.specs.Log.{SameLog}
-use Rattle.addrman_run.specs.Opening.{ReportsTables}
 use Rattle.addrman_run.specs.declared.status.Status.{Status}
 use Rattle.addrman_run.specs.declared.status.Status.TheVariants.{Done, WriteFault, DiskFault, Memory}
 
@@ -29,7 +27,7 @@ pub record TextEnds (IsText : Option Past → List ℕ → Type 0)
   pub same : new.past ≡ old.past
 
 -- The text is about the tables of peers.dat. If that file and asmap.dat are absent, that is said.
-pub record TablesTextEnds (IsText : Option Past → List ℕ → Type 0) (chain : Chain)
-    (old new : Outside) (status : Status) : Type 0 where
-  pub ends : TextEnds IsText (ReportsTables chain) old new status
+pub record TablesTextEnds (IsText : Option Past → List ℕ → Type 0)
+    (Refuses : Option Past → Status → Type 0) (old new : Outside) (status : Status) : Type 0 where
+  pub ends : TextEnds IsText Refuses old new status
   pub absent : ReportsNoPeers old.past status

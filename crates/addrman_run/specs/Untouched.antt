@@ -2,7 +2,7 @@
 use Rattle.std.specs.Prelude.{◌≡◌, ℕ, List, ⊤}
 use Rattle.arguments.specs.Table.{Asks}
 use Rattle.arguments.specs.declared.request.Request.{Request}
-use Rattle.arguments.specs.declared.request.Request.TheVariants.{Replay, Opener, Limit, LookupLines, AddressLines, Risk, Gen, Trial, Help, Version}
+use Rattle.arguments.specs.declared.request.Request.TheVariants.{Replay, Opener, Limit, LookupLines, AddressLines, Risk, FromRaw, Gen, Trial, Help, Version}
 use Rattle.addrman_run.specs.Risk.{AsksNoLog}
 use Rattle.addrman_run.specs.declared.status.Status.{Status}
 use Rattle.addrman_run.specs.declared.status.Status.TheVariants.{Usage}
@@ -14,7 +14,8 @@ ReadsNoLog (Opener key kind) = ⊥
 ReadsNoLog Limit = ⊥
 ReadsNoLog LookupLines = ⊥
 ReadsNoLog AddressLines = ⊥
-ReadsNoLog (Risk by kind) = AsksNoLog by
+ReadsNoLog (Risk by from) = AsksNoLog by
+ReadsNoLog (FromRaw key kind) = ⊥
 ReadsNoLog other = ⊤
 
 -- the commands that ask the folder for nothing

@@ -13,6 +13,8 @@ use bit_code::MAX_ASMAP;
 use host_io::{Bytes, Folder, Name};
 use peers_file::{FileFault, MAX_FILE};
 use prefix_table::{MAX_TEXT, TableFault};
+use raw_file::ListingFault;
+use raw_read::RawFault;
 use save_store::{LoadFault, load};
 use std::alloc::Global;
 
@@ -26,6 +28,8 @@ pub(crate) enum Input {
     Bans,
     /// An anchors.dat, in the place of peers.dat.
     Anchors,
+    /// A listing of the tables, in the place of peers.dat.
+    Listing,
 }
 
 impl Input {
@@ -40,6 +44,7 @@ impl Input {
             Input::Peers => Name::Peers,
             Input::Bans => Name::Bans,
             Input::Anchors => Name::Peers,
+            Input::Listing => Name::Peers,
         }
     }
 
@@ -54,6 +59,7 @@ impl Input {
             Input::Peers => MAX_FILE as u64,
             Input::Bans => ban_list::MAX_FILE as u64,
             Input::Anchors => anchors::MAX_FILE as u64,
+            Input::Listing => raw_read::MAX_TEXT as u64,
         }
     }
 
@@ -70,6 +76,7 @@ impl Input {
             Input::Peers => Status::PeersRefused(PeersFault::File(FileFault::TooLarge { size })),
             Input::Bans => Status::BansRefused(BanFault::TooLarge { size }),
             Input::Anchors => Status::AnchorsRefused(AnchorsFault::TooLarge { size }),
+            Input::Listing => Status::RawRefused(ListingFault::Text(RawFault::TooLarge)),
         }
     }
 }

@@ -64,7 +64,7 @@ impl Learned {
         self.head.as_slice()
     }
 
-    /// Returns the bytes of prefixes.txt or banlist.json, if it is refused.
+    /// Returns the bytes of prefixes.txt, banlist.json or the listing, if it is refused.
     pub fn text(&self) -> &[u8] {
         match &self.text {
             Some(bytes) => bytes.items(),

@@ -1,26 +1,21 @@
-ghost use Rattle.std.specs.Prelude.{◌≡◌, ◌≢◌, IfOk};
+ghost use Rattle.std.specs.Prelude.{◌≡◌};
 ghost use Rattle.log_run.specs.Counts.{IsCounted};
-ghost use Rattle.table_groups.specs.View.{view_of};
 ghost use Rattle.addrman_run.specs.InFolder.{ReportsNoPeers};
-ghost use Rattle.addrman_run.specs.Inside.{TextEnds};
-ghost use Rattle.addrman_run.specs.Opening.{ReportsTables};
 ghost use Rattle.addrman_run.specs.Picture.{IsPicture, by_of, chain_name, picture_for};
 ghost use Rattle.addrman_run.specs.TextOut.{TextOut};
+ghost use Rattle.addrman_run.specs.Views.{IsViewText, ReportsView, chain_of};
 
-use crate::opening::open_peers;
-use crate::output::write_line;
+use crate::view_text::{ViewText, chain_of, write_view};
 use crate::{Learned, Memory, Status};
-use arguments::{Colouring, FileKind};
-use host_io::{Bytes, Folder, Sink};
+use arguments::{Colouring, Colours, TablesFrom};
+use host_io::{Folder, Sink};
 use peers_file::Chain;
 use std::alloc::Global;
 use std::hash::BuildHasher;
-use std::marker::Brand;
-use std::sync::ledger::{Blank, Ledger};
+use std::sync::ledger::Ledger;
 use steps::Steps;
-use table_groups::Lent;
+use table_groups::TableView;
 use table_picture::{By, put_picture, put_picture_by};
-use tables::Tables;
 
 /// Returns what the colours go by.
 fn by_of(by: Colouring) -> By
@@ -48,96 +43,66 @@ fn chain_name(chain: Chain) -> &'static [u8]
     }
 }
 
-/// Writes the picture of the tables of the folder's peers.dat under its asmap.
+/// The picture of a view.
+#[derive(Drop)]
+struct Drawing {
+    colours: Colours,
+    chain: Chain,
+}
+
+impl ViewText for Drawing {
+    ghost use Rattle.std.specs.Prelude.{⊤};
+
+    ghost is_text = { λ drawing view text.
+        text ≡ picture_for drawing.colours drawing.chain view };
+
+    ghost ready = { λ _. ⊤ };
+
+    fn text_of<V: TableView, G: BuildHasher, L: Ledger>(
+        &self,
+        alloc: Global,
+        hasher: &G,
+        tables: &V,
+        steps: &mut Steps<L>,
+    ) -> Result<Vec<u8>, Memory> {
+        let mut text = Vec::new(alloc);
+        match self.colours {
+            Colours::Plain => {
+                put_picture(alloc, hasher, tables, &mut text, steps)?;
+                Ok(text)
+            }
+            Colours::By(by) => {
+                let (by, name) = (by_of(by), chain_name(self.chain));
+                put_picture_by(alloc, hasher, tables, by, name, &mut text, steps)?;
+                Ok(text)
+            }
+            Colours::Marks(_) => {
+                put_picture(alloc, hasher, tables, &mut text, steps)?;
+                Ok(text)
+            }
+        }
+    }
+}
+
+/// Writes the picture of the tables of the folder's peers.dat, or of the listing in its place,
+/// under its asmap.
 pub(crate) fn picture<F: Folder, K: Sink, H: BuildHasher + Drop>(
     alloc: Global,
     hasher: H,
-    by: Option<Colouring>,
-    kind: FileKind,
+    colours: Colours,
+    from: TablesFrom,
     folder: &mut F,
     out: &mut K,
     learned: &mut Learned,
 ) -> Status
-    ensures text { TextOut (IsPicture by kind) (ReportsTables kind.chain)
+    ensures text { TextOut (IsViewText (IsPicture colours (chain_of from)) from) (ReportsView from)
         (F.past folder.old) (K.written out.old) (K.written out.new) result }
     ensures absent { ReportsNoPeers (F.past folder.old) result }
     ensures disk { IsCounted Status.DiskFault (F.faults folder.old) (F.faults folder.new) result }
     ensures write { IsCounted Status.WriteFault (K.faults out.old) (K.faults out.new) result }
     ensures same { F.past folder.new ≡ F.past folder.old }
 {
-    let mut asmap = None;
-    draw(alloc, &hasher, by, kind, &mut asmap, folder, out, learned)
-}
-
-/// Opens the tables of the folder, whose asmap's bytes stay in `asmap`, and writes their picture.
-fn draw<'a, F: Folder, K: Sink, H: BuildHasher + Drop>(
-    alloc: Global,
-    hasher: &'a H,
-    by: Option<Colouring>,
-    kind: FileKind,
-    asmap: &'a mut Option<Bytes>,
-    folder: &mut F,
-    out: &mut K,
-    learned: &mut Learned,
-) -> Status
-    ensures text { TextOut (IsPicture by kind) (ReportsTables kind.chain)
-        (F.past folder.old) (K.written out.old) (K.written out.new) result }
-    ensures absent { ReportsNoPeers (F.past folder.old) result }
-    ensures disk { IsCounted Status.DiskFault (F.faults folder.old) (F.faults folder.new) result }
-    ensures write { IsCounted Status.WriteFault (K.faults out.old) (K.faults out.new) result }
-    ensures same { F.past folder.new ≡ F.past folder.old }
-{
-    match open_peers(alloc, Lent::of(hasher), kind, asmap, folder, learned) {
-        Ok(tables) => write_picture(alloc, hasher, by, kind.chain, &tables, out),
-        Err(status) => status,
-    }
-}
-
-/// Writes the picture of the tables.
-fn write_picture<K: Sink, H: BuildHasher, G: BuildHasher>(
-    alloc: Global,
-    hasher: &G,
-    by: Option<Colouring>,
-    chain: Chain,
-    tables: &Tables<'_, H>,
-    out: &mut K,
-) -> Status
-    ensures text { TextEnds (picture_for by chain (view_of tables.now))
-        (K.written out.old) (K.written out.new) result }
-    ensures write { IsCounted Status.WriteFault (K.faults out.old) (K.faults out.new) result }
-    ensures no_disk { result ≢ Status.DiskFault }
-{
-    match text_of::<Brand, H, G>(alloc, hasher, by, chain, tables, Blank::new(1)) {
-        Ok(text) => write_line(text.as_slice(), out),
-        Err(_) => Status::Memory,
-    }
-}
-
-/// Returns the picture of the tables. The steps are counted, and nobody reads how many.
-fn text_of<L: Ledger, H: BuildHasher, G: BuildHasher>(
-    alloc: Global,
-    hasher: &G,
-    by: Option<Colouring>,
-    chain: Chain,
-    tables: &Tables<'_, H>,
-    blank: Blank,
-) -> Result<Vec<u8>, Memory>
-    requires name { blank.name ≡ L.name }
-    requires parts { blank.parts ≡ L.parts }
-    requires one { blank.parts ≡ 1 }
-    ensures { IfOk result (λ text. text.items ≡ picture_for by chain (view_of tables.now)) }
-{
-    let mut steps = Steps::<L>::none(blank);
-    let mut text = Vec::new(alloc);
-    match by {
-        None => {
-            put_picture(alloc, hasher, tables, &mut text, &mut steps)?;
-            Ok(text)
-        }
-        Some(by) => {
-            let (by, name) = (by_of(by), chain_name(chain));
-            put_picture_by(alloc, hasher, tables, by, name, &mut text, &mut steps)?;
-            Ok(text)
-        }
-    }
+    let chain = chain_of(from);
+    let drawing = Drawing { colours, chain };
+    write_view(alloc, hasher, &drawing, from, folder, out, learned)
 }

@@ -14,6 +14,7 @@ use crate::compile::compile_table;
 use crate::decompile::decompile;
 use crate::diff::{chain_of, diff};
 use crate::file_line::write_file_line;
+use crate::from_raw::from_raw;
 use crate::generate::generate;
 use crate::help::{help, version};
 use crate::limit::limit;
@@ -23,10 +24,11 @@ use crate::lookup_lines::lookup_lines;
 use crate::opener::opener;
 use crate::picture::picture;
 use crate::replay::replay;
-use crate::risk::risk;
+use crate::risk_from::risk_from;
 use crate::show::Show;
-use crate::tables_json::{TablesJson, write_tables_json};
+use crate::tables_json::{GroupsText, InfoText, write_raw};
 use crate::trial::trial;
+use crate::view_text::write_view;
 use crate::{Learned, Status};
 use arguments::{Request, read_request};
 use host_io::{Folder, Sink, Source};
@@ -152,25 +154,18 @@ fn carry_out<L: Source, F: Folder, K: Sink, H: BuildHasher + Drop>(
         Request::Anchors { chain } => {
             write_file_line(alloc, &ListAnchors { chain }, folder, out, learned)
         }
-        Request::Picture { by, kind } => picture(alloc, hasher, by, kind, folder, out, learned),
-        Request::Raw { kind } => {
-            write_tables_json(alloc, hasher, TablesJson::Raw, kind, folder, out, learned)
+        Request::Picture { colours, from } => picture(
+            alloc, hasher, colours, from, folder, out, learned,
+        ),
+        Request::Raw { kind } => write_raw(alloc, hasher, kind, folder, out, learned),
+        Request::Info { from } => {
+            write_view(alloc, hasher, &InfoText, from, folder, out, learned)
         }
-        Request::Info { kind } => {
-            write_tables_json(alloc, hasher, TablesJson::Info, kind, folder, out, learned)
+        Request::Groups { from } => {
+            write_view(alloc, hasher, &GroupsText, from, folder, out, learned)
         }
-        Request::Groups { kind } => {
-            write_tables_json(
-                alloc,
-                hasher,
-                TablesJson::Groups,
-                kind,
-                folder,
-                out,
-                learned,
-            )
-        }
-        Request::Risk { by, kind } => risk(alloc, hasher, by, kind, log, folder, out, learned),
+        Request::Risk { by, from } => risk_from(alloc, hasher, by, from, log, folder, out, learned),
+        Request::FromRaw { key, kind } => from_raw(alloc, key, kind, log, folder, out, learned),
         Request::Ban {
             rule,
             subnet,

@@ -192,7 +192,7 @@ known_none (r ∷ recs) peer none = by (same_peer peer r.peer) none (known_none 
     by true is rest = absurd (true≢false is)
     by false is rest = rest is
 
-position_of : (recs : List FileRec) (peer : Peer) → position_or_len (same_peer peer) (peers_of recs) ≡ position_or_len (λ (q : FileRec). same_peer peer q.peer) recs
+pub position_of : (recs : List FileRec) (peer : Peer) → position_or_len (same_peer peer) (peers_of recs) ≡ position_or_len (λ (q : FileRec). same_peer peer q.peer) recs
 position_of [] peer = refl
 position_of (r ∷ recs) peer = ap (λ n. cond (not (same_peer peer r.peer)) (1 + n) 0) (position_of recs peer)
 
@@ -201,7 +201,7 @@ pub is_new_peer : (recs : List FileRec) (rec : FileRec) (new : Bool) → new ≡
 is_new_peer recs rec new is fresh =
     sym (ap (differs rec) (known_none recs rec.peer (absent new (list_any (same_peer rec.peer) (peers_of recs)) is fresh)))
 
-position_found : {X : Type 0} (p : X → Bool) (xs : List X) → list_any p xs ≡ true → position_or_len p xs < length xs
+pub position_found : {X : Type 0} (p : X → Bool) (xs : List X) → list_any p xs ≡ true → position_or_len p xs < length xs
 position_found p [] any = absurd (true≢false (sym any))
 position_found p (x ∷ xs) any = by (p x) any (position_found p xs)
   where

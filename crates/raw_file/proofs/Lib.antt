@@ -1,3 +1,5 @@
 mod Agains
 mod Facts
 mod Inputs
+mod Distinct
+mod Filled

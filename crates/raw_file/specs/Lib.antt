@@ -3,3 +3,4 @@ pub mod Input
 pub mod Listing
 pub mod Faults
 pub mod Inside
+pub mod Opening

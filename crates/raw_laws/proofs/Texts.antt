@@ -71,7 +71,7 @@ buckets-fit table st from (suc count) h b =
     (fits-at (table_of table) (slot_number from 0) (slot_number from 0) (slot_number from 0 + SLOTS) (slot_number (from + 1) 0) refl middle first)
     (fits-at (table_of table) (slot_number (from + 1) 0) (slot_number (from + 1) 0) (slot_number (from + 1 + count) 0) (slot_number (from + suc count) 0) refl end rest)
 
-table-rows : (table : Table) (st : State) → All IsPrintable st.records → AreRows (table_of table) 0 (table_members table st) (table_rows table st)
+pub table-rows : (table : Table) (st : State) → All IsPrintable st.records → AreRows (table_of table) 0 (table_members table st) (table_rows table st)
 table-rows New st h = (buckets-fit New st 0 1024 h (omega arith)).are
 table-rows Tried st h = (buckets-fit Tried st 0 256 h (omega arith)).are
 

@@ -14,4 +14,4 @@ mod slots;
 mod view;
 
 pub use net_addr::Memory;
-pub use view::{RawView, read_view, slots_are_named};
+pub use view::{RawView, read_view, records_have_addresses, slots_are_named};

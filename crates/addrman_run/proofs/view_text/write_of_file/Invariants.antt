@@ -1,4 +1,4 @@
-use Rattle.addrman_run.proofs.picture.write_picture.Given as goal
+use Rattle.addrman_run.proofs.view_text.write_of_file.Given as goal
 
 -- the ledger that no other token is of
 abbrev pub ghosts-text_of : goal.ghosts-text_of
