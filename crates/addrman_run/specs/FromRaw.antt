@@ -17,7 +17,7 @@ use Rattle.raw_file.specs.Faults.{HasListingFault, IsListing}
 use Rattle.raw_file.specs.Input.{IsInput, IsLong}
 use Rattle.raw_file.specs.declared.fault.ListingFault.{ListingFault}
 use Rattle.raw_file.specs.declared.fault.ListingFault.TheVariants as fault
-use Rattle.raw_read.specs.declared.fault.RawFault.TheVariants as raw
+use Rattle.raw_read.specs.declared.raw.RawFault.TheVariants as raw
 use Rattle.raw_read.specs.declared.read.TheConstants.{MAX_TEXT}
 use Rattle.save_store.specs.Saves.{NoMore}
 use Rattle.addrman_run.specs.Asmaps.{IsMapIn, RefusesAsmap}

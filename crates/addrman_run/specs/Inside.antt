@@ -19,11 +19,9 @@ use Rattle.anchors.specs.declared.fault.AnchorsFault.TheVariants as anchors_faul
 use Rattle.anchors.specs.declared.read.TheConstants as anchors
 use Rattle.ban_list.specs.declared.fault.BanFault.TheVariants as ban
 use Rattle.ban_list.specs.declared.read_file.TheConstants as bans
-use Rattle.ban_list.specs.declared.rule.BanRule.{BanRule}
+use Rattle.ban_list.specs.declared.ban.BanRule.{BanRule}
 use Rattle.raw_file.specs.declared.fault.ListingFault.TheVariants.{Text}
 use Rattle.raw_read.specs.Raw.{HasRawFault}
-use Rattle.raw_read.specs.declared.fault.RawFault.TheVariants as raw_fault
-use Rattle.raw_read.specs.declared.read.TheConstants as raw
 use Rattle.addrman_run.specs.Bans.{IsListIn, RefusesBans, Change}
 use Rattle.addrman_run.specs.Diff.{AsksRecords, RefusesRecords, ReportsDiff}
 use Rattle.addrman_run.specs.Compile.{IsCompiled, IsInPlace, compile_text}
@@ -40,8 +38,8 @@ use Rattle.addrman_run.specs.declared.peers_fault.PeersFault.TheVariants.{Duplic
 use Rattle.addrman_run.specs.Asmaps.{IsMapIn}
 use Rattle.addrman_run.specs.Opening.{ReportsTables, places_of, tables_of}
 use Rattle.log_run.specs.Run.{Run}
-use Rattle.log_run.specs.declared.end.LogEnd.{LogEnd}
-use Rattle.log_run.specs.declared.end.LogEnd.TheVariants as end
+use Rattle.log_run.specs.declared.run.LogEnd.{LogEnd}
+use Rattle.log_run.specs.declared.run.LogEnd.TheVariants as end
 use Rattle.session_saves.specs.Events.{Ended}
 use Rattle.session.specs.History.{HistoryStep, fresh}
 use Rattle.session.specs.State as session
@@ -55,15 +53,14 @@ use Rattle.placing.specs.declared.sum.SumRule.{SumRule}
 use Rattle.raw_file.specs.Faults.{HasListingFault, IsListing}
 use Rattle.raw_file.specs.Input.{IsLong}
 use Rattle.raw_file.specs.declared.fault.ListingFault.TheVariants as listing
-use Rattle.raw_read.specs.declared.fault.RawFault.TheVariants as raw
+use Rattle.raw_read.specs.declared.raw.RawFault.TheVariants as raw
 use Rattle.raw_read.specs.declared.read.TheConstants as raw_read
 use Rattle.peers_file.specs.declared.chain.Chain.{Chain}
 use Rattle.arguments.specs.declared.file_kind.FileKind.{FileKind}
 use Rattle.table_machine.specs.State.{State, empty_state}
 use Rattle.table_machine.specs.Restoring.{duplicate}
 use Rattle.addrman_run.specs.declared.status.Status.{Status}
-use Rattle.addrman_run.specs.declared.status.Status.TheVariants.{PeersRefused, BansRefused, OldAsmapRefused, AnchorsRefused, RawRefused}
-use Rattle.addrman_run.specs.declared.status.Status.TheVariants.{Done, LogLine, LineTooLong, LogTooLong, AsmapRefused, TableRefused, ReadFault, WriteFault, DiskFault, Memory, NoFile, NoKey}
+use Rattle.addrman_run.specs.declared.status.Status.TheVariants.{PeersRefused, BansRefused, OldAsmapRefused, AnchorsRefused, RawRefused, Done, LogLine, LineTooLong, LogTooLong, AsmapRefused, TableRefused, ReadFault, WriteFault, DiskFault, Memory, NoFile, NoKey}
 
 -- the name of a file that commands load
 abbrev pub name_of : Input → Name
@@ -83,7 +80,7 @@ max_of input.Prefixes = MAX_TEXT
 max_of input.Peers = MAX_FILE
 max_of input.Bans = bans.MAX_FILE
 max_of input.Anchors = anchors.MAX_FILE
-max_of input.Listing = raw.MAX_TEXT
+max_of input.Listing = raw_read.MAX_TEXT
 
 -- the status for a file of more bytes
 abbrev pub too_large_of : Input → ℕ → Status
@@ -93,7 +90,7 @@ too_large_of input.Prefixes size = TableRefused (Rows (table.TooLarge size))
 too_large_of input.Peers size = PeersRefused (File (peers.TooLarge size))
 too_large_of input.Bans size = BansRefused (ban.TooLarge size)
 too_large_of input.Anchors size = AnchorsRefused (anchors_fault.TooLarge size)
-too_large_of input.Listing size = RawRefused (Text raw_fault.TooLarge)
+too_large_of input.Listing size = RawRefused (Text raw.TooLarge)
 
 -- the file has these bytes, within its limit
 abbrev pub IsLoaded : Input → Option Past → List ℕ → Type 0
@@ -150,7 +147,7 @@ IsNoTables chain past other = ReportsTables chain past other
 
 -- why the bytes of a listing are refused
 abbrev pub IsNoRaw : List ℕ → Status → Type 0
-IsNoRaw bytes (RawRefused (Text fault)) = (fault ≢ raw_fault.Memory) × HasRawFault bytes fault
+IsNoRaw bytes (RawRefused (Text fault)) = (fault ≢ raw.Memory) × HasRawFault bytes fault
 IsNoRaw bytes Memory = ⊤
 IsNoRaw bytes other = ⊥
 

@@ -8,9 +8,9 @@ use Rattle.placing.specs.declared.sum.SumRule.TheVariants.{Bytes}
 use Rattle.raw_file.specs.declared.fault.ListingFault.{ListingFault}
 use Rattle.raw_file.specs.declared.fault.ListingFault.TheVariants.{Text}
 use Rattle.raw_read.specs.Raw.{HasRawFault, IsRaw}
-use Rattle.raw_read.specs.declared.fault.RawFault.TheVariants as raw
+use Rattle.raw_read.specs.declared.raw.RawFault.TheVariants as raw
 use Rattle.raw_read.specs.declared.read.TheConstants.{MAX_TEXT}
-use Rattle.raw_read.specs.declared.row.Raw.{Raw}
+use Rattle.raw_read.specs.declared.raw.Raw.{Raw}
 use Rattle.raw_view.specs.Listed.{view_of}
 use Rattle.table_groups.specs.View.{View}
 use Rattle.addrman_run.specs.Asmaps.{IsMapIn, RefusesAsmap}

@@ -3,7 +3,7 @@ ghost use Rattle.host_io.specs.declared.name.Name.TheVariants as name;
 ghost use Rattle.log_run.specs.Counts.{IsCounted};
 ghost use Rattle.placing.specs.Inside.{map_of};
 ghost use Rattle.raw_read.specs.Raw.{IsRaw};
-ghost use Rattle.raw_read.specs.declared.row.Raw.{Raw};
+ghost use Rattle.raw_read.specs.declared.raw.Raw.{Raw};
 ghost use Rattle.raw_view.specs.Listed.{view_by, view_of};
 ghost use Rattle.addrman_run.specs.InFolder.{InBareFolder};
 ghost use Rattle.addrman_run.specs.Inside.{IsNoListing, IsNoRaw};

@@ -2,3 +2,4 @@ mod Addresses
 mod Fits
 mod Records
 mod Texts
+mod Shown

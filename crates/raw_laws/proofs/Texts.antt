@@ -12,7 +12,7 @@ use Rattle.peer_rec.specs.declared.rec.Rec.{Rec}
 use Rattle.placing.specs.Places.{Places}
 use Rattle.raw_read.specs.Raw.{HasTables, IsRaw}
 use Rattle.raw_read.specs.Rows.{AreRows, Member, buckets_of, list_of, next_slot, slot_number}
-use Rattle.raw_read.specs.declared.row.RawTable.{RawTable}
+use Rattle.raw_read.specs.declared.raw.RawTable.{RawTable}
 use Rattle.slot_grid.specs.declared.sizes.TheConstants.{SLOTS}
 use Rattle.table_machine.specs.State.{State, is_new_at, is_tried_at}
 use Rattle.raw_laws.specs.Printed.{IsPrintable, IsPrinted, bucket_rows, raw_of, row_of, table_of, table_rows}
@@ -71,7 +71,7 @@ buckets-fit table st from (suc count) h b =
     (fits-at (table_of table) (slot_number from 0) (slot_number from 0) (slot_number from 0 + SLOTS) (slot_number (from + 1) 0) refl middle first)
     (fits-at (table_of table) (slot_number (from + 1) 0) (slot_number (from + 1) 0) (slot_number (from + 1 + count) 0) (slot_number (from + suc count) 0) refl end rest)
 
-table-rows : (table : Table) (st : State) → All IsPrintable st.records → AreRows (table_of table) 0 (table_members table st) (table_rows table st)
+pub table-rows : (table : Table) (st : State) → All IsPrintable st.records → AreRows (table_of table) 0 (table_members table st) (table_rows table st)
 table-rows New st h = (buckets-fit New st 0 1024 h (omega arith)).are
 table-rows Tried st h = (buckets-fit Tried st 0 256 h (omega arith)).are
 

@@ -15,10 +15,10 @@ use Rattle.placing.specs.Places.{Places}
 use Rattle.raw_read.specs.Fields.{IsPlainText, IsRawName}
 use Rattle.raw_read.specs.Raw.{IsRaw}
 use Rattle.raw_read.specs.Rows.{AreRows, IsRow, Member, slot_number}
-use Rattle.raw_read.specs.declared.row.Raw.{Raw}
-use Rattle.raw_read.specs.declared.row.RawRow.{RawRow}
-use Rattle.raw_read.specs.declared.row.RawTable.{RawTable}
-use Rattle.raw_read.specs.declared.row.RawTable.TheVariants.{New, Tried}
+use Rattle.raw_read.specs.declared.raw.Raw.{Raw}
+use Rattle.raw_read.specs.declared.raw.RawRow.{RawRow}
+use Rattle.raw_read.specs.declared.raw.RawTable.{RawTable}
+use Rattle.raw_read.specs.declared.raw.RawTable.TheVariants.{New, Tried}
 use Rattle.raw_view.proofs.Named.{named}
 use Rattle.raw_view.specs.Listed.{rec_of, row_in, slot_in, slots_of, view_of}
 use Rattle.table_groups.specs.View.{occupant_at}
