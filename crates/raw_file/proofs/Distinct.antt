@@ -10,9 +10,9 @@ use Rattle.net_addr.specs.Ranges.{is_valid}
 use Rattle.net_addr.specs.Same.{same_peer, same_peer-Decides}
 use Rattle.net_addr.specs.declared.peer.Peer.{Peer}
 use Rattle.peer_rec.specs.declared.file_rec.FileRec.{FileRec}
-use Rattle.raw_read.specs.declared.row.Raw.{Raw}
-use Rattle.raw_read.specs.declared.row.RawRow.{RawRow}
-use Rattle.raw_read.specs.declared.row.RawTable.TheVariants.{New, Tried}
+use Rattle.raw_read.specs.declared.raw.Raw.{Raw}
+use Rattle.raw_read.specs.declared.raw.RawRow.{RawRow}
+use Rattle.raw_read.specs.declared.raw.RawTable.TheVariants.{New, Tried}
 use Rattle.raw_file.specs.Listing.{again_at, first_again, first_fault, first_twice, firsts, new_recs, or_else, peers_of, recs_of, with_rec}
 use Rattle.table_machine.specs.Restoring.{duplicate_from, is_repeated}
 use Rattle.table_machine.proofs.Lists.{Contains-cases}
