@@ -1,5 +1,5 @@
 -- The buckets that records of a file get.
-use Rattle.std.proofs.Common.{◌≡◌, ◌≢◌, is_some, ◌∷◌, ◌∙◌, ◌==◌, ◌||◌, ◌<◌, ◌++◌, Bool, Contains, List, None, Option, Some, [], All, ap, arith, false, if◌then◌else◌, inl, inr, length, map, not, refl, subst, sym, true, ℕ, suc, ◌⊎◌}
+use Rattle.std.proofs.Common.{◌≡◌, ◌≢◌, is_some, ◌∷◌, ◌∙◌, ◌==◌, ◌||◌, ◌<◌, Bool, Contains, List, None, Option, Some, [], All, ap, arith, false, if◌then◌else◌, inl, inr, length, map, not, refl, subst, sym, true, ℕ, suc, ◌⊎◌}
 use Rattle.std.specs.Prelude.{find, slice_get, unwrap_or}
 use Rattle.std.specs.List.{list_any, position_or_len, range_with_len}
 use Rattle.std.proofs.lemmas.List.Elements.{Contains-push_cases}
