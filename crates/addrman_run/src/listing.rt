@@ -24,11 +24,7 @@ use std::alloc::Global;
 const NO_KEY: [u8; 32] = [0; 32];
 
 /// Returns the view of a listing under an asmap.
-fn view_under<'a>(
-    alloc: Global,
-    map: Option<Sane<'a>>,
-    bytes: &[u8],
-) -> Result<RawView<'a>, Status>
+fn view_under<'a>(alloc: Global, map: Option<Sane<'a>>, bytes: &[u8]) -> Result<RawView<'a>, Status>
     ensures found { IfOk result (λ view. (raw : Raw) × IsRaw bytes.now raw
         × (view_by view.placer view.tables ≡ view_of (keyless_places (map_of map.entry)) raw)) }
     ensures cause { IfErr result (IsNoRaw bytes.now) }

@@ -165,9 +165,7 @@ fn carry_out<L: Source, F: Folder, K: Sink, H: BuildHasher + Drop>(
         Request::Groups { from } => {
             write_view(alloc, hasher, &GroupsText, from, folder, out, learned)
         }
-        Request::Risk { by, from } => risk_from(
-            alloc, hasher, by, from, log, folder, out, learned,
-        ),
+        Request::Risk { by, from } => risk_from(alloc, hasher, by, from, log, folder, out, learned),
         Request::FromRaw { key, kind } => from_raw(alloc, key, kind, log, folder, out, learned),
         Request::Ban {
             rule,

@@ -1,5 +1,5 @@
 use Rattle.std.proofs.Common.{◌≡◌}
 use Rattle.addrman_run.proofs.tables_json.write_opened.Given as goal
 
-abbrev pub ghosts-text_of : goal.ghosts-text_of
-ghosts-text_of g a = record { name = a.blank.name; parts = a.blank.parts }
+abbrev pub ghosts-slots_text : goal.ghosts-slots_text
+ghosts-slots_text g a = record { name = a.blank.name; parts = a.blank.parts }
