@@ -13,7 +13,7 @@ use Rattle.raw_file.specs.Input.{IsInput}
 use Rattle.raw_file.specs.declared.fault.ListingFault.{ListingFault}
 use Rattle.raw_file.specs.declared.fault.ListingFault.TheVariants as fault
 use Rattle.raw_read.specs.Raw.{HasMemberFault}
-use Rattle.raw_read.specs.declared.fault.RawFault.TheVariants as raw
+use Rattle.raw_read.specs.declared.raw.RawFault.TheVariants as raw
 use Rattle.raw_read.specs.declared.read.TheConstants.{MAX_TEXT}
 use Rattle.save_store.specs.Saves.{PublishesOrNot}
 use Rattle.addrman_run.specs.Asmaps.{IsNoMap}
