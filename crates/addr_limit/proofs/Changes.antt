@@ -9,12 +9,11 @@ use Rattle.std.proofs.lemmas.Slice.Zip.{length-zip}
 use Rattle.net_addr.specs.Address.{Address}
 use Rattle.net_addr.specs.declared.peer.Entry.{Entry}
 use Rattle.addr_codecs.specs.declared.fault.MsgFault.{MsgFault}
-use Rattle.limiter.specs.declared.conn.Conn.{Conn}
+use Rattle.limiter.specs.declared.limiter.Conn.{Conn}
 use Rattle.addr_limit.specs.declared.command.LimitCommand.{LimitCommand}
 use Rattle.addr_limit.specs.declared.command.LimitCommand.TheVariants.{Open, Close, GetAddr, Message, Stat}
-use Rattle.limiter.specs.State.{find_conn, with_conn, without_conn, set_conn, AreRising}
+use Rattle.limiter.specs.State.{find_conn, with_conn, without_conn, set_conn, AreRising, new_conn}
 use Rattle.limiter.specs.Tokens.{refill, after_entry, after_entries}
-use Rattle.limiter.specs.State.{new_conn}
 use Rattle.addr_limit.specs.Steps.{Outcome, serve, serve_none, limit_entries}
 use Rattle.limiter.specs.Calls.{after_open, after_asking, after_message}
 use Rattle.limiter.proofs.Found.{set-found, without-none}

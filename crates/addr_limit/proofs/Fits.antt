@@ -4,7 +4,7 @@ use Rattle.std.specs.List.{zip}
 use Rattle.std.proofs.lemmas.Bool.Decides.{nat_tests}
 use Rattle.net_addr.specs.declared.peer.Entry.{Entry}
 use Rattle.addr_codecs.specs.declared.fault.MsgFault.{MsgFault}
-use Rattle.limiter.specs.declared.conn.Conn.{Conn}
+use Rattle.limiter.specs.declared.limiter.Conn.{Conn}
 use Rattle.limiter.specs.Tokens.{refill, after_entry, after_entries, after_getaddr}
 use Rattle.limiter.specs.State.{find_conn, with_conn, without_conn, set_conn, IsBounded, AreBounded}
 use Rattle.addr_limit.specs.LogState.{LimitState}

@@ -13,8 +13,8 @@ use Rattle.addr_limit.specs.declared.command.Event.{Event}
 use Rattle.addr_limit.specs.declared.command.LimitCommand.{LimitCommand}
 use Rattle.addr_limit.specs.declared.command.LimitCommand.TheVariants.{Close, GetAddr, Stat}
 use Rattle.addr_limit.specs.Apart.{DependsOn, IsLastOutput}
-use Rattle.addr_limit.specs.declared.word.LimitWord.{LimitWord}
-use Rattle.addr_limit.specs.declared.word.LimitWord.TheVariants as v
+use Rattle.addr_limit.specs.declared.command.LimitWord.{LimitWord}
+use Rattle.addr_limit.specs.declared.command.LimitWord.TheVariants as v
 use Rattle.addr_limit.specs.Lines.{limit_kinds, message_kinds, verb_at, SaysEvent, SaysBy, SaysMessage, SaysOf, SaysRequest, LimitStep, are_about, is_about, is_about_by}
 use Rattle.addr_limit.proofs.Apart.{depends_on, last_output}
 use Rattle.addr_limit.proofs.Served.{part_of, concerns, others_leave, answers_alike}

@@ -8,7 +8,7 @@ use Rattle.std.proofs.lemmas.Slice.Zip.{length-zip, get_or-zip}
 use Rattle.net_addr.specs.declared.peer.Entry.{Entry}
 use Rattle.net_addr.specs.declared.net.Net.{Net}
 use Rattle.net_addr.specs.declared.net.Net.TheVariants.{Internal}
-use Rattle.limiter.specs.declared.conn.Conn.{Conn}
+use Rattle.limiter.specs.declared.limiter.Conn.{Conn}
 use Rattle.limiter.specs.Tokens.{refill, intake, intake_count}
 use Rattle.addr_limit.specs.Steps.{Outcome, is_internal, unless_hidden, for_output, message_line, limit_message}
 use Rattle.limiter.proofs.Tokens.{intake-first}

@@ -20,8 +20,8 @@ use Rattle.addr_limit.specs.declared.command.Event.{Event}
 use Rattle.addr_limit.specs.declared.command.Event.TheVariants.{Now, Of}
 use Rattle.addr_limit.specs.declared.command.LimitCommand.{LimitCommand}
 use Rattle.addr_limit.specs.declared.command.LimitCommand.TheVariants.{Open, Close, GetAddr, Message, Stat}
-use Rattle.addr_limit.specs.declared.word.LimitWord.{LimitWord}
-use Rattle.addr_limit.specs.declared.word.LimitWord.TheVariants as v
+use Rattle.addr_limit.specs.declared.command.LimitWord.{LimitWord}
+use Rattle.addr_limit.specs.declared.command.LimitWord.TheVariants as v
 
 abbrev Holds : Bool → Type 0
 Holds true = Unit {0}

@@ -16,8 +16,8 @@ use Rattle.addr_limit.specs.declared.command.Event.{Event}
 use Rattle.addr_limit.specs.declared.command.Event.TheVariants.{Now, Of, Nothing}
 use Rattle.addr_limit.specs.declared.command.LimitCommand.{LimitCommand}
 use Rattle.addr_limit.specs.declared.command.LimitCommand.TheVariants.{Open, Close, GetAddr, Message, Stat}
-use Rattle.addr_limit.specs.declared.word.LimitWord.{LimitWord}
-use Rattle.addr_limit.specs.declared.word.LimitWord.TheVariants as v
+use Rattle.addr_limit.specs.declared.command.LimitWord.{LimitWord}
+use Rattle.addr_limit.specs.declared.command.LimitWord.TheVariants as v
 
 -- the first word of a line
 abbrev pub limit_word : LimitWord → List ℕ

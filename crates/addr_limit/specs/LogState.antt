@@ -1,6 +1,6 @@
 -- The state of the limit's log: a clock, and the connections by rising number.
 use Rattle.std.specs.Prelude.{ℕ, List, []}
-use Rattle.limiter.specs.declared.conn.Conn.{Conn}
+use Rattle.limiter.specs.declared.limiter.Conn.{Conn}
 
 pub record LimitState : Type 0 where
   pub clock : ℕ

@@ -11,7 +11,7 @@ use Rattle.net_addr.specs.declared.peer.Entry.{Entry}
 use Rattle.addr_codecs.specs.Texts.{message_text, addrv2_entry_text}
 use Rattle.addr_codecs.specs.declared.fault.MsgFault.{MsgFault}
 use Rattle.log_lines.specs.Replies.{fault_text, numbers_text}
-use Rattle.limiter.specs.declared.conn.Conn.{Conn}
+use Rattle.limiter.specs.declared.limiter.Conn.{Conn}
 use Rattle.limiter.specs.Tokens.{refill, after_entries, intake, after_getaddr}
 use Rattle.limiter.specs.State.{find_conn, new_conn, set_conn}
 use Rattle.addr_limit.specs.LogState.{LimitState}

@@ -11,17 +11,13 @@
 mod command;
 mod law;
 mod limit_log;
-mod passing;
-mod payload;
 mod print;
 mod read;
-mod serving;
-mod word;
+mod requests;
 
-pub use command::{Event, LimitCommand};
+pub use command::{Event, LimitCommand, LimitWord};
 pub use law::{
     calls_are_events, connections_are_apart, lines_have_one_meaning, tokens_are_bounded,
 };
 pub use limit_log::LimitLog;
 pub use limiter::{Asked, Conn, Limiter, Memory};
-pub use word::LimitWord;

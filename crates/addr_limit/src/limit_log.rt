@@ -1,7 +1,7 @@
 ghost use Rattle.std.specs.Prelude.{◌≡◌, ◌++◌, [], ◌∷◌, OnOk, OnErr};
 
 use crate::read::LimitLines;
-use crate::serving::serve;
+use crate::requests::serve;
 use crate::{Event, LimitCommand};
 use grammar::{LineFault, read_said};
 use host_io::LINE_FEED;

@@ -5,7 +5,7 @@ ghost use Rattle.addr_limit.specs.Steps.{comment, stat_text, addrv2_line, messag
 ghost use Rattle.addr_limit.specs.Inside.{IsShort, IsShortRead, ArePassing};
 
 use crate::LimitCommand;
-use crate::passing::{Passing, count_of, passing_entries};
+use crate::requests::{Passing, count_of, passing_entries};
 use addr_codecs::{Entries, MsgFault, write_addrv2};
 use grammar::Words;
 use host_io::LINE_FEED;

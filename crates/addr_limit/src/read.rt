@@ -1,13 +1,12 @@
-ghost use Rattle.std.specs.Prelude.{◌≡◌, ◌≢◌, [], ◌∷◌, List, Some, IfOk, Err, ⊤};
+ghost use Rattle.std.specs.Prelude.{◌≡◌, ◌≢◌, [], ◌∷◌, List, Some, IfOk, Err, ⊤, ◌<◌, ℕ, slice_index};
 ghost use Rattle.grammar.specs.Fields.{Value, u32_field, AllMean, AreAtFault};
 ghost use Rattle.grammar.specs.declared.fault.LineFault.{LineFault};
 ghost use Rattle.addr_limit.specs.Laws.{no_fault, one_event, one_fault};
-ghost use Rattle.addr_limit.specs.Lines.{FaultAfter, SaysAfter, SaysBy, SaysMessage, SaysRequest, limit_kinds, message_kinds};
+ghost use Rattle.addr_limit.specs.Lines.{FaultAfter, SaysAfter, SaysBy, SaysMessage, SaysRequest, limit_kinds, message_kinds, IsRead};
 
-use crate::payload::read_entries;
-use crate::word::KEYWORDS;
+use crate::command::KEYWORDS;
 use crate::{Event, LimitCommand, LimitWord};
-use addr_codecs::Form;
+use addr_codecs::{Entries, Form, MsgFault, read_message};
 use grammar::{
     Between, Choice, Grammar, LineFault, OneOf, Payload, Random, Source, Texts, find_keyword,
     read_fields,
@@ -118,4 +117,37 @@ fn read_sent<T: Texts>(alloc: Global, form: Form, rest: T) -> Result<Event, Line
     let read = read_entries(alloc, form, payload.items())?;
     let request = LimitCommand::Message { read, words };
     Ok(Event::Of { number, request })
+}
+
+/// Reads the payload of a message, or the fault that it has.
+pub(crate) fn read_entries(
+    alloc: Global,
+    form: Form,
+    payload: &[u8],
+) -> Result<Result<Entries, MsgFault>, LineFault>
+    ensures found { IfOk result (λ read. IsRead form payload.now read) }
+    ensures bytes { (i : ℕ) → slice_index payload.now i < 256 }
+    ensures fault { (f : LineFault) → result ≡ Err f → f ≡ LineFault.Memory }
+{
+    match read_message(alloc, form, payload) {
+        Ok(entries) => Ok(Ok(entries)),
+        Err(fault) => unless_memory(fault),
+    }
+}
+
+/// Returns the fault, unless memory ran out.
+fn unless_memory(fault: MsgFault) -> Result<Result<Entries, MsgFault>, LineFault>
+    ensures fault { IfOk result (λ read. read ≡ Err fault) }
+    ensures cause { IfOk result (λ read. fault ≢ MsgFault.Memory) }
+    ensures memory { (f : LineFault) → result ≡ Err f → f ≡ LineFault.Memory }
+{
+    match fault {
+        MsgFault::Memory => Err(LineFault::Memory),
+        MsgFault::Truncated
+        | MsgFault::NonCanonical
+        | MsgFault::TooMany
+        | MsgFault::BadLength
+        | MsgFault::TooLong
+        | MsgFault::Trailing => Ok(Err(fault)),
+    }
 }

@@ -5,9 +5,9 @@ use Rattle.addr_codecs.specs.declared.message.TheConstants.{MAX_ENTRIES}
 use Rattle.limiter.specs.State.{find_conn, new_conn}
 use Rattle.limiter.specs.Tokens.{refill, intake_count}
 use Rattle.limiter.specs.Calls.{after_open, after_taking}
-use Rattle.limiter.specs.declared.conn.Conn.{Conn}
-use Rattle.limiter.specs.declared.conn.Asked.{Asked}
-use Rattle.limiter.specs.declared.conn.Asked.TheVariants.{Unknown, Already, Granted}
+use Rattle.limiter.specs.declared.limiter.Conn.{Conn}
+use Rattle.limiter.specs.declared.limiter.Asked.{Asked}
+use Rattle.limiter.specs.declared.limiter.Asked.TheVariants.{Unknown, Already, Granted}
 use Rattle.c_values.specs.declared.code.TheConstants.{OK, CLOSED, MEMORY, ARGUMENT, NONE}
 use Rattle.c_handles.specs.declared.limiter_handle.KeptLimiter.{KeptLimiter}
 use Rattle.c_values.specs.declared.structs.AddrmanLimits.{AddrmanLimits}

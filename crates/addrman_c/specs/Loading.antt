@@ -11,8 +11,8 @@ use Rattle.peers_file.specs.declared.fault.FileFault.TheVariants as file
 use Rattle.c_values.specs.declared.code.TheConstants.{OK, MEMORY, ARGUMENT, REFUSED}
 use Rattle.c_handles.specs.declared.handle.Kept.{Kept}
 use Rattle.c_values.specs.declared.structs.AddrmanFault.{AddrmanFault}
-use Rattle.addrman_c.specs.declared.loading.LoadFault.{LoadFault}
-use Rattle.addrman_c.specs.declared.loading.LoadFault.TheVariants.{Memory, Refused, Duplicate}
+use Rattle.addrman_c.specs.declared.peers_dat.LoadFault.{LoadFault}
+use Rattle.addrman_c.specs.declared.peers_dat.LoadFault.TheVariants.{Memory, Refused, Duplicate}
 use Rattle.addrman_c.specs.Files.{IsMapOf, IsNoMap}
 use Rattle.c_values.specs.Faults.{fault_at}
 

@@ -5,8 +5,7 @@ ghost use Rattle.addrman_c.specs.Files.{chain_of};
 ghost use Rattle.addrman_c.specs.OnHandle.{OnTables};
 ghost use Rattle.addrman_c.specs.Saving.{BeginCall, DoneCall, IsBegun, NextCall, OnSave, request_number};
 
-use crate::chain::chain_of;
-use crate::writing::file_of;
+use crate::peers_dat::{chain_of, file_of};
 use c_handles::{Handle, KeptSave, Keyed, SaveHandle};
 use c_values::code::{ARGUMENT, CLOSED, MEMORY, NONE, OK, SHORT_BUFFER};
 use c_values::put_all;

@@ -6,7 +6,7 @@ use Rattle.ban_list.specs.NewFile.{IsWritten}
 use Rattle.ban_list.specs.declared.ban.Ban.{Ban}
 use Rattle.ban_list.specs.declared.fault.BanFault.{BanFault}
 use Rattle.ban_list.specs.declared.fault.BanFault.TheVariants as ban
-use Rattle.ban_list.specs.declared.rule.BanRule.{BanRule}
+use Rattle.ban_list.specs.declared.ban.BanRule.{BanRule}
 use Rattle.host_io.specs.Past.{Past, Always}
 use Rattle.host_io.specs.Writing.{Appended, AppendedPart}
 use Rattle.host_io.specs.declared.name.Name.TheVariants as name

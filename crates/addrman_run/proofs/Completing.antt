@@ -6,7 +6,7 @@ use Rattle.std.proofs.lemmas.List.Elements.{All-head, All-tail}
 use Rattle.addr_limit.specs.Laws.{no_fault as no_limit_fault}
 use Rattle.addr_limit.specs.Lines.{FaultAfter, HasEventFault, SaysAfter}
 use Rattle.ban_list.specs.declared.ban.Ban.{Ban}
-use Rattle.ban_list.specs.declared.rule.BanRule.{BanRule}
+use Rattle.ban_list.specs.declared.ban.BanRule.{BanRule}
 use Rattle.host_io.specs.Faults.{Rose, RoseBy}
 use Rattle.host_io.specs.Lines.{lines_of, onto_first}
 use Rattle.host_io.specs.Outside.{Outside}
@@ -21,8 +21,8 @@ use Rattle.grammar.specs.Words.{fields_of}
 use Rattle.grammar.specs.declared.fault.LineFault.{LineFault}
 use Rattle.log_run.specs.Log.{HasNoFeed}
 use Rattle.log_run.specs.Run.{Ran, Steps, Streams}
-use Rattle.log_run.specs.declared.end.LogEnd.TheVariants as end
-use Rattle.log_run.specs.declared.end.LogEnd.{LogEnd}
+use Rattle.log_run.specs.declared.run.LogEnd.TheVariants as end
+use Rattle.log_run.specs.declared.run.LogEnd.{LogEnd}
 use Rattle.log_run.specs.declared.sizes.TheConstants.{MAX_LINE, MAX_LOG}
 use Rattle.opener_lines.proofs.OneMeaning.{asked_no_fault}
 use Rattle.opener_lines.specs.Grammar.{HasRequestFault}

@@ -2,7 +2,7 @@
 use Rattle.std.proofs.Common.{◌≡◌, ◌<◌, ◌^◌, ℕ, List, [], ◌∷◌, ◌++◌, refl, ap, ◌∙◌, subst}
 use Rattle.std.specs.List.{flat_map}
 use Rattle.log_run.specs.Run.{Ran, Run, Streams}
-use Rattle.log_run.specs.declared.end.LogEnd.{LogEnd}
+use Rattle.log_run.specs.declared.run.LogEnd.{LogEnd}
 use Rattle.addr_limit.specs.Apart.{IsLastOutput, Outputs}
 use Rattle.addr_limit.specs.Lines.{HasEventFault, LimitStep, is_about}
 use Rattle.addr_limit.specs.LogState.{LimitState, start}

@@ -8,7 +8,7 @@ use Rattle.host_io.specs.Lines.{IsPassedOver}
 use Rattle.host_io.specs.Outside.{Outside}
 use Rattle.host_io.specs.Past.{Past}
 use Rattle.log_run.specs.Run.{Ran, Run, Streams}
-use Rattle.log_run.specs.declared.end.LogEnd.{LogEnd}
+use Rattle.log_run.specs.declared.run.LogEnd.{LogEnd}
 use Rattle.names.specs.Text.{IsTextOf}
 use Rattle.addrman_run.specs.Address.{address_text}
 use Rattle.addrman_run.specs.AddressLines.{Described, HasAddressFault}

@@ -5,7 +5,7 @@ use Rattle.std.proofs.lemmas.List.Filters.{length-filter_both}
 use Rattle.net_addr.specs.Same.{same_peer}
 use Rattle.host_io.specs.Outside.{Outside}
 use Rattle.log_run.specs.Run.{Ran, Run}
-use Rattle.log_run.specs.declared.end.LogEnd.{LogEnd}
+use Rattle.log_run.specs.declared.run.LogEnd.{LogEnd}
 use Rattle.manager.specs.Machine.{Machine}
 use Rattle.opener_lines.specs.Fair.{IsFair}
 use Rattle.opener_lines.specs.Grammar.{HasRequestFault}

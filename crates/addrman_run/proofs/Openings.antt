@@ -28,7 +28,7 @@ use Rattle.addrman_run.specs.declared.status.Status.{Status}
 use Rattle.addrman_run.specs.declared.status.Status.TheVariants.{AsmapRefused, DiskFault, Memory, NoKey, PeersRefused}
 use Rattle.addrman_run.specs.Replay.{IsUntouched, NotOpened}
 use Rattle.host_io.specs.Outside.{Outside}
-use Rattle.log_run.specs.declared.end.LogEnd.{LogEnd}
+use Rattle.log_run.specs.declared.run.LogEnd.{LogEnd}
 use Rattle.addrman_run.proofs.Showing.{too_large}
 
 -- ---- the number of the next record

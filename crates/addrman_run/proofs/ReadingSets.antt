@@ -10,8 +10,8 @@ use Rattle.host_io.specs.Lines.{IsPassedOver}
 use Rattle.host_io.specs.Outside.{Outside}
 use Rattle.host_io.specs.Writing.{Appended}
 use Rattle.log_run.specs.Run.{Ran, Run, Streams}
-use Rattle.log_run.specs.declared.end.LogEnd.{LogEnd}
-use Rattle.log_run.specs.declared.end.LogEnd.TheVariants as end
+use Rattle.log_run.specs.declared.run.LogEnd.{LogEnd}
+use Rattle.log_run.specs.declared.run.LogEnd.TheVariants as end
 use Rattle.arguments.specs.declared.file_kind.FileKind.{FileKind}
 use Rattle.risk_parts.specs.Sets.{IsProperSet, IsSetText}
 use Rattle.risk_parts.specs.declared.addr_set.AddrSet.{AddrSet}

@@ -10,7 +10,7 @@ use Rattle.asmap_vm.specs.Asmap.{Asmap}
 use Rattle.log_lines.specs.Spelling.{HasCommandFault}
 use Rattle.log_run.specs.Run.{Run, Streams, last_reply}
 use Rattle.log_run.specs.Worlds.{RanIn, both}
-use Rattle.log_run.specs.declared.end.LogEnd.{LogEnd}
+use Rattle.log_run.specs.declared.run.LogEnd.{LogEnd}
 use Rattle.peers_file.specs.declared.chain.Chain.{Chain}
 use Rattle.arguments.specs.declared.file_kind.FileKind.{FileKind}
 use Rattle.session_saves.specs.Events.{Ended}

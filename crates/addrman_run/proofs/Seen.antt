@@ -3,8 +3,8 @@ use Rattle.std.proofs.Common.{◌≡◌, ◌∙◌, ℕ, List, [], ◌∷◌, ap
 use Rattle.grammar.specs.declared.fault.LineFault.{LineFault}
 use Rattle.log_run.specs.Counts.{IsCounted}
 use Rattle.log_run.specs.Run.{EndsBy, Ran, Run, Steps, Streams, last_reply}
-use Rattle.log_run.specs.declared.end.LogEnd.{LogEnd}
-use Rattle.log_run.specs.declared.end.LogEnd.TheVariants as end
+use Rattle.log_run.specs.declared.run.LogEnd.{LogEnd}
+use Rattle.log_run.specs.declared.run.LogEnd.TheVariants as end
 use Rattle.addrman_run.specs.Inside.{status_of}
 use Rattle.addrman_run.specs.Log.{LogOutcome}
 use Rattle.addrman_run.specs.declared.status.Status.{Status}

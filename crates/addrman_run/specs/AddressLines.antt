@@ -8,7 +8,7 @@ use Rattle.host_io.specs.Outside.{Outside}
 use Rattle.host_io.specs.Past.{Past}
 use Rattle.host_io.specs.Reading.{TakesAtMost}
 use Rattle.log_run.specs.Run.{Streams}
-use Rattle.log_run.specs.declared.end.LogEnd.{LogEnd}
+use Rattle.log_run.specs.declared.run.LogEnd.{LogEnd}
 use Rattle.log_run.specs.declared.sizes.TheConstants.{MAX_LOG}
 use Rattle.names.specs.Text.{IsTextOf}
 use Rattle.net_addr.specs.Address.{Address}

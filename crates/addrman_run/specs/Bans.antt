@@ -11,7 +11,7 @@ use Rattle.ban_list.specs.declared.bans.BanReply.TheVariants.{Added, Kept, Full}
 use Rattle.ban_list.specs.declared.fault.BanFault.{BanFault}
 use Rattle.ban_list.specs.declared.fault.BanFault.TheVariants.{TooLarge}
 use Rattle.ban_list.specs.declared.read_file.TheConstants.{MAX_FILE}
-use Rattle.ban_list.specs.declared.rule.BanRule.{BanRule}
+use Rattle.ban_list.specs.declared.ban.BanRule.{BanRule}
 use Rattle.ban_list.specs.declared.subnet.Subnet.{Subnet}
 use Rattle.host_io.specs.Disk.{Disk, MayHave}
 use Rattle.host_io.specs.Outside.{Outside}

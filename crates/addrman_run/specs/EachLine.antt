@@ -4,7 +4,7 @@ use Rattle.std.specs.List.{flat_map}
 use Rattle.grammar.specs.declared.fault.LineFault.{LineFault}
 use Rattle.host_io.specs.Lines.{IsPassedOver}
 use Rattle.log_run.specs.Run.{Ran, Steps, Streams}
-use Rattle.log_run.specs.declared.end.LogEnd.{LogEnd}
+use Rattle.log_run.specs.declared.run.LogEnd.{LogEnd}
 
 -- A line is passed over, or answered. Nothing changes.
 abbrev pub EachStep : {S X : Type 0} → (List ℕ → X → Type 0) → (S → X → List ℕ) → Steps S

@@ -7,7 +7,7 @@ use Rattle.addr_limit.specs.Apart.{Outputs}
 use Rattle.addr_limit.specs.Lines.{HasEventFault, LimitStep, is_about}
 use Rattle.addr_limit.specs.LogState.{LimitState, start}
 use Rattle.log_run.specs.Run.{Ran, Streams}
-use Rattle.log_run.specs.declared.end.LogEnd.{LogEnd}
+use Rattle.log_run.specs.declared.run.LogEnd.{LogEnd}
 use Rattle.log_run.specs.declared.sizes.TheConstants.{MAX_LOG}
 use Rattle.addrman_run.specs.Log.{LogOutcome, streams_of}
 use Rattle.addrman_run.specs.declared.status.Status.{Status}

@@ -2,8 +2,8 @@
 use Rattle.std.specs.Prelude.{◌≡◌, ◌⊎◌}
 use Rattle.host_io.specs.Outside.{Outside}
 use Rattle.log_run.specs.Run.{Streams}
-use Rattle.log_run.specs.declared.end.LogEnd.{LogEnd}
-use Rattle.log_run.specs.declared.end.LogEnd.TheVariants as end
+use Rattle.log_run.specs.declared.run.LogEnd.{LogEnd}
+use Rattle.log_run.specs.declared.run.LogEnd.TheVariants as end
 use Rattle.addrman_run.specs.declared.status.Status.{Status}
 use Rattle.addrman_run.specs.declared.status.Status.TheVariants as status
 

@@ -10,7 +10,7 @@ use Rattle.host_io.specs.Past.{Past}
 use Rattle.host_io.specs.Reading.{TakesAtMost}
 use Rattle.host_io.specs.declared.name.Name.TheVariants as name
 use Rattle.log_run.specs.Run.{Streams}
-use Rattle.log_run.specs.declared.end.LogEnd.{LogEnd}
+use Rattle.log_run.specs.declared.run.LogEnd.{LogEnd}
 use Rattle.log_run.specs.declared.sizes.TheConstants.{MAX_LOG}
 use Rattle.net_addr.specs.declared.peer.Peer.{Peer}
 use Rattle.addrman_run.specs.Asmaps.{IsMapIn, ReportsAsmap}

@@ -3,7 +3,7 @@ use Rattle.std.specs.Prelude.{◌≡◌, ℕ, ◌+◌, ◌≤◌, List, [], leng
 use Rattle.host_io.specs.Outside.{Outside}
 use Rattle.host_io.specs.Reading.{TakesAtMost}
 use Rattle.log_run.specs.Run.{Ran, Run}
-use Rattle.log_run.specs.declared.end.LogEnd.{LogEnd}
+use Rattle.log_run.specs.declared.run.LogEnd.{LogEnd}
 use Rattle.log_run.specs.declared.sizes.TheConstants.{MAX_LOG}
 use Rattle.peer_open.specs.Groups.{AreApart}
 use Rattle.peer_open.specs.declared.opener.TheConstants.{MAX_OUTBOUND}

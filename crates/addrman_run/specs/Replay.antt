@@ -15,7 +15,7 @@ use Rattle.table_laws.specs.Openings.{KeepsOpened}
 use Rattle.log_laws.specs.Shares.{KeepsShares}
 use Rattle.log_lines.specs.Spelling.{HasCommandFault}
 use Rattle.log_run.specs.Run.{Ran, Run}
-use Rattle.log_run.specs.declared.end.LogEnd.{LogEnd}
+use Rattle.log_run.specs.declared.run.LogEnd.{LogEnd}
 use Rattle.log_run.specs.declared.sizes.TheConstants.{MAX_LOG}
 use Rattle.peers_file.specs.declared.chain.Chain.{Chain}
 use Rattle.arguments.specs.declared.file_kind.FileKind.{FileKind}

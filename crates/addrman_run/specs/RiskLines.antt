@@ -9,8 +9,8 @@ use Rattle.host_io.specs.Past.{Past}
 use Rattle.host_io.specs.Reading.{TakesAtMost}
 use Rattle.host_io.specs.Writing.{Appended, AppendedPart}
 use Rattle.log_run.specs.Run.{Ran, Steps, Streams}
-use Rattle.log_run.specs.declared.end.LogEnd.{LogEnd}
-use Rattle.log_run.specs.declared.end.LogEnd.TheVariants as end
+use Rattle.log_run.specs.declared.run.LogEnd.{LogEnd}
+use Rattle.log_run.specs.declared.run.LogEnd.TheVariants as end
 use Rattle.log_run.specs.declared.sizes.TheConstants.{MAX_LOG}
 use Rattle.arguments.specs.declared.file_kind.FileKind.{FileKind}
 use Rattle.risk_parts.specs.Sets.{IsSetText}

@@ -5,7 +5,7 @@ use Rattle.std.proofs.lemmas.Bool.{iff_false}
 use Rattle.std.proofs.lemmas.Option.{none-some}
 use Rattle.ban_list.specs.Subnet.{IsProper}
 use Rattle.ban_list.specs.SubnetText.{IsSubnetTextBy}
-use Rattle.ban_list.specs.declared.rule.BanRule.{BanRule}
+use Rattle.ban_list.specs.declared.ban.BanRule.{BanRule}
 use Rattle.ban_list.specs.declared.subnet.Subnet.{Subnet}
 use Rattle.gen_load.specs.declared.generated.TheConstants.{MAX_LINES}
 use Rattle.grammar.specs.Fields.{AllMean, AreAtFault, Kind, Number, OfPeer, TheNumber, ThePeer, Value, u64_field}

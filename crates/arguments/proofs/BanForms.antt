@@ -5,8 +5,8 @@ use Rattle.std.proofs.lemmas.Option.{none-some}
 use Rattle.ban_list.proofs.Named.{one_subnet_by}
 use Rattle.ban_list.specs.BanFile.{max_time}
 use Rattle.ban_list.specs.SubnetText.{IsSubnetTextBy}
-use Rattle.ban_list.specs.declared.rule.BanRule.{BanRule}
-use Rattle.ban_list.specs.declared.rule.BanRule.TheVariants.{Labels, Names}
+use Rattle.ban_list.specs.declared.ban.BanRule.{BanRule}
+use Rattle.ban_list.specs.declared.ban.BanRule.TheVariants.{Labels, Names}
 use Rattle.ban_list.specs.declared.subnet.Subnet.{Subnet}
 use Rattle.grammar.specs.Fields.{AllMean, Kind, Value}
 use Rattle.grammar.specs.Table.{all_definite}

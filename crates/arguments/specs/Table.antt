@@ -3,7 +3,7 @@ use Rattle.std.specs.Prelude.{◌≡◌, ◌≢◌, ◌⊎◌, ◌<◌, ◌≤�
 use Rattle.ban_list.specs.BanFile.{max_time}
 use Rattle.ban_list.specs.Subnet.{IsProper}
 use Rattle.ban_list.specs.SubnetText.{IsSubnetTextBy}
-use Rattle.ban_list.specs.declared.rule.BanRule.{BanRule}
+use Rattle.ban_list.specs.declared.ban.BanRule.{BanRule}
 use Rattle.ban_list.specs.declared.subnet.Subnet.{Subnet}
 use Rattle.gen_load.specs.declared.generated.TheConstants.{MAX_LINES}
 use Rattle.grammar.specs.Fields.{AllMean, Kind, Number, OfPeer, Value, TheNumber, ThePeer, u64_field}

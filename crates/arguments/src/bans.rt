@@ -1,7 +1,7 @@
 ghost use Rattle.std.specs.Prelude.{◌≡◌, ◌≢◌, ◌<◌, ◌≤◌, ℕ, List, [], ◌∷◌, decimal, length, map, string_bytes, None, Some, IfSome, IfNone};
 ghost use Rattle.ban_list.specs.BanFile.{max_time};
 ghost use Rattle.ban_list.specs.SubnetText.{IsSubnetTextBy};
-ghost use Rattle.ban_list.specs.declared.rule.BanRule.{BanRule};
+ghost use Rattle.ban_list.specs.declared.ban.BanRule.{BanRule};
 ghost use Rattle.ban_list.specs.declared.subnet.Subnet.{Subnet};
 ghost use Rattle.arguments.specs.Options.{HasBanRule};
 ghost use Rattle.arguments.specs.Table.{HasNoValues, OfSubnet, Period, Reads, ThePeriod, TheSubnet};

@@ -8,7 +8,7 @@ use Rattle.net_addr.specs.declared.net.Net.TheVariants.{Ipv4}
 use Rattle.serde_json.specs.Data.{Data, object, member, no_members, number, unsigned, negative, boolean}
 use Rattle.ban_list.specs.Bans.{put, stops, after_ban, ban_of, current_by, Outcome}
 use Rattle.ban_list.specs.BanFile.{merged, time_at}
-use Rattle.ban_list.specs.declared.rule.BanRule.TheVariants.{Labels, Names}
+use Rattle.ban_list.specs.declared.ban.BanRule.TheVariants.{Labels, Names}
 use Rattle.ban_list.specs.declared.subnet.Subnet.{Subnet}
 use Rattle.ban_list.specs.declared.ban.Ban.{Ban}
 use Rattle.ban_list.specs.declared.bans.BanReply.{BanReply}

@@ -11,7 +11,7 @@ use Rattle.ban_list.specs.declared.ban.Ban.{Ban}
 use Rattle.ban_list.specs.declared.bans.TheConstants.{MAX_BANS}
 use Rattle.ban_list.specs.declared.fault.BanFault.{BanFault}
 use Rattle.ban_list.specs.declared.fault.BanFault.TheVariants.{Json, Form, TooMany}
-use Rattle.ban_list.specs.declared.rule.BanRule.{BanRule}
+use Rattle.ban_list.specs.declared.ban.BanRule.{BanRule}
 use Rattle.ban_list.proofs.FileLaws.{list_of, one_file, one_fault, no_fault, file_of, many_of}
 
 passes : (rule : BanRule) (d : Data) (ds : List Data) (bans : List Ban) → ((ban : Ban) → IsElement rule d ban → ⊥) → AreElements rule ds bans → AreElements rule (d ∷ ds) bans

@@ -7,8 +7,8 @@ use Rattle.names.specs.Name.{IsName}
 use Rattle.ban_list.proofs.OneName.{one_name}
 use Rattle.ban_list.specs.Subnet.{IsProper, IsWhole, width}
 use Rattle.ban_list.specs.SubnetText.{IsNamedSubnet, IsNamedText, IsSubnetText, IsSubnetTextBy, IsWholeOf, IsWholeSubnet}
-use Rattle.ban_list.specs.declared.rule.BanRule.{BanRule}
-use Rattle.ban_list.specs.declared.rule.BanRule.TheVariants.{Labels, Names}
+use Rattle.ban_list.specs.declared.ban.BanRule.{BanRule}
+use Rattle.ban_list.specs.declared.ban.BanRule.TheVariants.{Labels, Names}
 use Rattle.ban_list.specs.declared.subnet.Subnet.{Subnet}
 use Rattle.ban_list.proofs.Forms.{one_subnet, same_some, same_subnet}
 use Rattle.ban_list.proofs.Masks.{clear-whole}

@@ -17,8 +17,8 @@ use Rattle.net_addr.specs.declared.memory.Memory.{Memory}
 use Rattle.ban_list.specs.BanFile.{HasElements, IsElement, ban_data_by}
 use Rattle.ban_list.specs.NewFile.{AreOthers, HasOthers, IsOtherKept, IsRest, comes_before, subnet_cmp}
 use Rattle.ban_list.specs.declared.ban.Ban.{Ban}
-use Rattle.ban_list.specs.declared.rule.BanRule.{BanRule}
-use Rattle.ban_list.specs.declared.rule.BanRule.TheVariants.{Names}
+use Rattle.ban_list.specs.declared.ban.BanRule.{BanRule}
+use Rattle.ban_list.specs.declared.ban.BanRule.TheVariants.{Names}
 use Rattle.ban_list.specs.declared.subnet.Subnet.{Subnet}
 use Rattle.ban_list.proofs.FileLaws.{next_elements}
 

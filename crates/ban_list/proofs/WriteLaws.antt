@@ -11,7 +11,7 @@ use Rattle.ban_list.specs.Bans.{put, AreBans}
 use Rattle.ban_list.specs.BanFile.{IsElement, AreElements, IsReadBack, IsBanFile, ban_data, file_data, max_time}
 use Rattle.ban_list.specs.SubnetText.{subnet_text}
 use Rattle.ban_list.specs.declared.ban.Ban.{Ban}
-use Rattle.ban_list.specs.declared.rule.BanRule.TheVariants.{Labels}
+use Rattle.ban_list.specs.declared.ban.BanRule.TheVariants.{Labels}
 use Rattle.ban_list.proofs.BanLaws.{Apart, pairs_head, pairs_tail}
 use Rattle.ban_list.proofs.FileLaws.{file_of}
 

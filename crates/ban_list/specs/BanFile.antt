@@ -12,8 +12,8 @@ use Rattle.ban_list.specs.declared.ban.Ban.{Ban}
 use Rattle.ban_list.specs.declared.bans.TheConstants.{MAX_BANS}
 use Rattle.ban_list.specs.declared.fault.BanFault.{BanFault}
 use Rattle.ban_list.specs.declared.fault.BanFault.TheVariants.{Json, Form, TooMany, TooLarge, Memory}
-use Rattle.ban_list.specs.declared.rule.BanRule.{BanRule}
-use Rattle.ban_list.specs.declared.rule.BanRule.TheVariants.{Labels}
+use Rattle.ban_list.specs.declared.ban.BanRule.{BanRule}
+use Rattle.ban_list.specs.declared.ban.BanRule.TheVariants.{Labels}
 
 -- the greatest time
 abbrev pub max_time : ℕ

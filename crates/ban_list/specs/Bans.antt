@@ -5,8 +5,8 @@ use Rattle.net_addr.specs.Same.{same_address}
 use Rattle.ban_list.specs.Subnet.{IsProper, covers}
 use Rattle.ban_list.specs.declared.subnet.Subnet.{Subnet}
 use Rattle.ban_list.specs.declared.ban.Ban.{Ban}
-use Rattle.ban_list.specs.declared.rule.BanRule.{BanRule}
-use Rattle.ban_list.specs.declared.rule.BanRule.TheVariants.{Labels, Names}
+use Rattle.ban_list.specs.declared.ban.BanRule.{BanRule}
+use Rattle.ban_list.specs.declared.ban.BanRule.TheVariants.{Labels, Names}
 use Rattle.ban_list.specs.declared.bans.BanReply.{BanReply}
 use Rattle.ban_list.specs.declared.bans.BanReply.TheVariants.{Added, Kept, Full}
 use Rattle.ban_list.specs.declared.bans.TheConstants.{MAX_BANS}

@@ -10,8 +10,8 @@ use Rattle.serde_json.specs.View.{items_of}
 use Rattle.net_addr.specs.Address.{net_number}
 use Rattle.ban_list.specs.BanFile.{HasElements, IsElement, IsJson, ban_data_by, bans_text}
 use Rattle.ban_list.specs.declared.ban.Ban.{Ban}
-use Rattle.ban_list.specs.declared.rule.BanRule.{BanRule}
-use Rattle.ban_list.specs.declared.rule.BanRule.TheVariants.{Labels, Names}
+use Rattle.ban_list.specs.declared.ban.BanRule.{BanRule}
+use Rattle.ban_list.specs.declared.ban.BanRule.TheVariants.{Labels, Names}
 use Rattle.ban_list.specs.declared.subnet.Subnet.{Subnet}
 
 -- the order of subnets: by network, address and length (`operator<` of CSubNet and CNetAddr in

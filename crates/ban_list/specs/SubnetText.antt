@@ -7,8 +7,8 @@ use Rattle.net_addr.specs.Text.{ipv6_text, text_by, IsDottedText, IsBracketText,
 use Rattle.net_addr.specs.declared.net.Net.{Net}
 use Rattle.net_addr.specs.declared.net.Net.TheVariants.{Ipv4, Ipv6}
 use Rattle.ban_list.specs.Subnet.{width, clear, IsWhole}
-use Rattle.ban_list.specs.declared.rule.BanRule.{BanRule}
-use Rattle.ban_list.specs.declared.rule.BanRule.TheVariants.{Labels, Names}
+use Rattle.ban_list.specs.declared.ban.BanRule.{BanRule}
+use Rattle.ban_list.specs.declared.ban.BanRule.TheVariants.{Labels, Names}
 use Rattle.ban_list.specs.declared.subnet.Subnet.{Subnet}
 
 -- a text of an address of the network that has lengths. IPv6 has no brackets here; its bytes are in

@@ -1,5 +1,16 @@
-use crate::{BanRule, Subnet};
+use crate::Subnet;
 use net_addr::NetAddr;
+
+/// How a list of bans is written in its file, and when a ban is over.
+#[derive(Clone, Copy)]
+pub enum BanRule {
+    /// Addresses of Tor v3, I2P and CJDNS have the labels that the lines of a log have, elements
+    /// that are no bans are left out, and a ban is over at its end.
+    Labels,
+    /// As in Bitcoin Core: these addresses have names, what else the file has stays in it, the bans
+    /// are sorted, and a ban is over after its end.
+    Names,
+}
 
 /// A subnet that is banned for a time, in seconds since 1970 (`CBanEntry` in net_types.h of Bitcoin
 /// Core).

@@ -2,7 +2,7 @@ ghost use Rattle.std.specs.Prelude.{◌≡◌, ℕ, List};
 ghost use Rattle.ban_list.specs.BanFile.{HasOneMeaning};
 ghost use Rattle.ban_list.specs.Subnet.{IsProper};
 ghost use Rattle.ban_list.specs.SubnetText.{IsSubnetTextBy};
-ghost use Rattle.ban_list.specs.declared.rule.BanRule.{BanRule};
+ghost use Rattle.ban_list.specs.declared.ban.BanRule.{BanRule};
 ghost use Rattle.ban_list.specs.declared.subnet.Subnet.{Subnet};
 
 /// A text is, by each rule, the text of at most one subnet, and that is a proper one.

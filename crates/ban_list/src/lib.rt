@@ -18,31 +18,23 @@
 
 mod ban;
 mod bans;
-mod by_name;
-mod edits;
-mod element;
 mod fault;
 mod law;
-mod mask;
-mod merge;
-mod print;
-mod read;
 mod read_file;
-mod rule;
 mod subnet;
+mod subnet_names;
+mod subnet_text;
 mod write_by_name;
 mod write_file;
 
-pub use ban::Ban;
+pub use ban::{Ban, BanRule};
 pub use bans::{BanReply, Bans, MAX_BANS};
-pub use by_name::{parse_subnet_by, put_subnet_by, subnet_name};
 pub use fault::BanFault;
 pub use law::{files_have_one_meaning, texts_have_one_meaning};
 pub use net_addr::Memory;
-pub use print::put_subnet;
-pub use read::parse_subnet;
 pub use read_file::{MAX_FILE, passed_over, read_bans, read_bans_by};
-pub use rule::BanRule;
 pub use subnet::Subnet;
+pub use subnet_names::{parse_subnet_by, put_subnet_by, subnet_name};
+pub use subnet_text::{parse_subnet, put_subnet};
 pub use write_by_name::write_bans_by;
 pub use write_file::write_bans;

@@ -5,10 +5,9 @@ ghost use Rattle.serde_json.specs.Read.{max_depth};
 ghost use Rattle.serde_json.specs.View.{items_of, members_view, view};
 ghost use Rattle.ban_list.specs.BanFile.{ban_data_by};
 ghost use Rattle.ban_list.specs.NewFile.{AreOthers, HasOthers, IsNamedFile, IsOtherKept, IsRest, IsRestOfFile, IsWritten, comes_before, subnet_cmp};
-ghost use Rattle.ban_list.specs.declared.rule.BanRule.TheVariants.{Names};
+ghost use Rattle.ban_list.specs.declared.ban.BanRule.TheVariants.{Names};
 
-use crate::element::element_of;
-use crate::read_file::{elements_of, parse};
+use crate::read_file::{element_of, elements_of, parse};
 use crate::write_file::{bytes_of, element_with};
 use crate::{Ban, BanRule, Bans, Memory, subnet_name, write_bans};
 use host_io::Bytes;

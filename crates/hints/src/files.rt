@@ -1,5 +1,3 @@
-use crate::paths::Paths;
-use crate::shown::{MARKED, PACKED, is_marked, is_packed};
 use asmap_compile::{CompileFault, MAX_BITS};
 use asmap_vm::CodeFault;
 use ban_list::{BanFault, MAX_BANS, MAX_FILE};
@@ -7,6 +5,79 @@ use bit_code::MAX_ASMAP;
 use host_io::Name;
 use serde_json::Value;
 use std::alloc::{AllocError, Global};
+
+/// The file of a node's anchors.
+pub const ANCHORS: &str = "anchors.dat";
+
+/// The paths of files that are read in the place of those of the current folder.
+#[derive(Clone, Copy)]
+pub struct Paths<'a> {
+    /// In the place of peers.dat.
+    pub peers: Option<&'a str>,
+    /// In the place of asmap.dat.
+    pub asmap: Option<&'a str>,
+    /// In the place of banlist.json.
+    pub bans: Option<&'a str>,
+    /// Whether what is read in the place of peers.dat is a file of anchors.
+    pub has_anchors: bool,
+}
+
+impl<'a> Paths<'a> {
+    /// Returns no path: all files are those of the current folder.
+    pub fn none() -> Paths<'a> {
+        Paths {
+            peers: None,
+            asmap: None,
+            bans: None,
+            has_anchors: false,
+        }
+    }
+
+    /// Returns the path of the file that is read in the place of this one, if there is one.
+    pub fn of(&self, name: Name) -> Option<&'a str> {
+        match name {
+            Name::Peers => self.peers,
+            Name::Asmap => self.asmap,
+            Name::Bans => self.bans,
+            _ => None,
+        }
+    }
+
+    /// Returns the name of the file in whose place a file is read.
+    pub fn replaced(&self, name: Name) -> &'static str {
+        if self.has_anchors && name == Name::Peers {
+            ANCHORS
+        } else {
+            name.file_name()
+        }
+    }
+
+    /// Returns what a file is called in a text: its path, or its name in the current folder.
+    pub(crate) fn text_of(&self, name: Name) -> &'a str {
+        match self.of(name) {
+            Some(path) => path,
+            None => name.file_name(),
+        }
+    }
+}
+
+/// What is said of a file that gzip packed.
+pub(crate) const PACKED: &str = "it is a gzip file: unpack it first";
+
+/// Returns `true` if a file begins as one that gzip packed (RFC 1952).
+pub(crate) fn is_packed(bytes: &[u8]) -> bool {
+    bytes.starts_with(b"\x1f\x8b")
+}
+
+/// What is said of a text that begins with a byte order mark.
+pub(crate) const MARKED: &str = "the file begins with a byte order mark";
+
+/// Returns `true` if a text begins with a byte order mark, of UTF-8 or UTF-16.
+pub(crate) fn is_marked(text: &[u8]) -> bool {
+    text.starts_with(b"\xef\xbb\xbf")
+        || text.starts_with(b"\xff\xfe")
+        || text.starts_with(b"\xfe\xff")
+}
 
 /// Where a file of anchors comes from.
 const NO_ANCHORS: &str = "it has to be in the current folder: a node writes it when it stops, and \

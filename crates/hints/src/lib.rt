@@ -5,31 +5,27 @@
 //! Tested only, by `tools/mistakes`: the texts.
 #![tactic(auto)]
 
-mod anchors_file;
-mod explain;
-mod failure;
+mod anchors_dat;
+mod command_line;
+mod common_errors;
+mod failures;
+mod field_kinds;
 mod files;
-mod forms;
-mod line;
-mod nearest;
+mod keyword_fields;
+mod log_line;
 mod noted_folder;
 mod options;
-mod paths;
-mod peers;
-mod row;
-mod shown;
-mod stream;
-mod usage;
-mod usual;
-mod wanted;
+mod peers_dat;
+mod prefixes_txt;
+mod quoting;
+mod syntax;
 
-pub use anchors_file::anchors_hint;
-pub use explain::expected_text;
-pub use files::{asmap_hint, bans_hint, compile_hint, missing_hint, place_hint};
-pub use line::line_hint;
+pub use anchors_dat::anchors_hint;
+pub use command_line::usage_hint;
+pub use failures::stream_hint;
+pub use files::{ANCHORS, Paths, asmap_hint, bans_hint, compile_hint, missing_hint, place_hint};
+pub use keyword_fields::expected_text;
+pub use log_line::line_hint;
 pub use noted_folder::{NotedFolder, Saves};
-pub use paths::{ANCHORS, Paths};
-pub use peers::{duplicate_hint, peers_hint};
-pub use row::table_hint;
-pub use stream::stream_hint;
-pub use usage::usage_hint;
+pub use peers_dat::{duplicate_hint, peers_hint};
+pub use prefixes_txt::table_hint;

@@ -1,8 +1,8 @@
 ghost use Rattle.std.specs.Prelude.{◌≡◌, ◌≢◌, ◌<◌, ◌≤◌, length, IfOk, OnErr, None};
 ghost use Rattle.host_io.specs.Faults.{Rose};
 
-use crate::failure::failure_hint;
-use crate::paths::Paths;
+use crate::failures::failure_hint;
+use crate::files::Paths;
 use host_io::{DirFolder, Failed, Folder, Lock, Name};
 use std::alloc::{AllocError, Global};
 use std::marker::Model;

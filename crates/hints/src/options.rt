@@ -1,7 +1,7 @@
-use crate::explain::expected_text;
-use crate::forms::keyword_of;
-use crate::peers::CHAINS;
-use crate::shown::quoted;
+use crate::keyword_fields::expected_text;
+use crate::peers_dat::CHAINS;
+use crate::quoting::quoted;
+use crate::syntax::keyword_of;
 use std::alloc::{AllocError, Global};
 
 /// How many hexadecimal digits a key has.

@@ -7,7 +7,7 @@ use Rattle.std.specs.List.{AllByRecursion}
 use Rattle.std.specs.List.Sorted.{IsStrictlySortedBy}
 use Rattle.std.specs.Map.{lookup, set_value}
 use Rattle.indexmap.specs.IndexMap.{insert_entry}
-use Rattle.limiter.specs.declared.conn.Conn.{Conn}
+use Rattle.limiter.specs.declared.limiter.Conn.{Conn}
 use Rattle.limiter.specs.State.{find_conn, with_conn, without_conn, AreRising}
 use Rattle.limiter.specs.Inside.{conns_of, AreEntries, IsConn}
 use Rattle.limiter.proofs.Conns.{find-with_conn, find_other-with_conn, find-without_conn, find_other-without_conn}

@@ -5,7 +5,7 @@ use Rattle.std.specs.List.Sorted.{IsStrictlySortedBy}
 use Rattle.std.specs.Ordering.{nat_cmp}
 use Rattle.std.proofs.lemmas.Bool.{eqb-true}
 use Rattle.std.proofs.lemmas.Bool.Decides.{nat_tests}
-use Rattle.limiter.specs.declared.conn.Conn.{Conn}
+use Rattle.limiter.specs.declared.limiter.Conn.{Conn}
 use Rattle.limiter.specs.State.{find_conn, with_conn, without_conn, set_conn, AreRising}
 
 pub without-none : (number : ℕ) (conns : List Conn) → find_conn number conns ≡ None → without_conn number conns ≡ conns

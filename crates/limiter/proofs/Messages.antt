@@ -1,7 +1,7 @@
 -- A whole message at once is its entries one by one.
 use Rattle.std.proofs.Common.{◌≡◌, ℕ, Bool, true, false, List, length, nat_lt, take, Option, Some, None, Result, Ok, Err, refl, sym, ◌∙◌, ap, if◌then◌else◌}
 use Rattle.net_addr.specs.declared.peer.Entry.{Entry}
-use Rattle.limiter.specs.declared.conn.Conn.{Conn}
+use Rattle.limiter.specs.declared.limiter.Conn.{Conn}
 use Rattle.limiter.specs.State.{with_conn}
 use Rattle.limiter.specs.Tokens.{refill, intake, intake_count, after_entries, admit_conn}
 use Rattle.limiter.specs.Calls.{after_message, after_taking}

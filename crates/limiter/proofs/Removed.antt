@@ -5,7 +5,7 @@ use Rattle.std.proofs.lemmas.List.Elements.{All-from_recursion, recursion_from_A
 use Rattle.std.specs.Map.{keys_of}
 use Rattle.indexmap.specs.IndexMap.{swap_remove_entry}
 use Rattle.indexmap.proofs.MapLemmas.{Found-position, swap_remove_entry-found, swap_remove_entry-missing}
-use Rattle.limiter.specs.declared.conn.Conn.{Conn}
+use Rattle.limiter.specs.declared.limiter.Conn.{Conn}
 use Rattle.limiter.specs.Inside.{AreEntries, IsConn}
 
 All-swapped : {X : Type 0} (P : X → Type 0) (xs : List X) (i : ℕ) (d : X) → i < length xs → All P xs → All P (swap_remove xs i d)

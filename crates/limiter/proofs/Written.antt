@@ -5,7 +5,7 @@ use Rattle.std.specs.Prelude.{IfOk, OnOk, OnErr}
 use Rattle.std.specs.Option.{option_copied}
 use Rattle.std.proofs.lemmas.Bool.Decides.{nat_tests}
 use Rattle.std.specs.Map.{lookup, set_value}
-use Rattle.limiter.specs.declared.conn.Conn.{Conn}
+use Rattle.limiter.specs.declared.limiter.Conn.{Conn}
 use Rattle.net_addr.specs.Address.{Address}
 use Rattle.limiter.specs.State.{new_conn, find_conn, with_conn, set_conn}
 use Rattle.limiter.specs.Inside.{conns_of, AreEntries, IsConn, IsKept}

@@ -1,11 +1,11 @@
 -- What the calls of `Limiter` answer, and the connections after them.
 use Rattle.std.specs.Prelude.{ℕ, List, is_none, Option, Some, None, if◌then◌else◌}
 use Rattle.net_addr.specs.declared.peer.Entry.{Entry}
-use Rattle.limiter.specs.declared.conn.Conn.{Conn}
+use Rattle.limiter.specs.declared.limiter.Conn.{Conn}
 use Rattle.limiter.specs.State.{find_conn, with_conn}
 use Rattle.limiter.specs.Tokens.{after_getaddr, refill, after_entries, admit_conn}
-use Rattle.limiter.specs.declared.conn.Asked.{Asked}
-use Rattle.limiter.specs.declared.conn.Asked.TheVariants.{Unknown, Already, Granted}
+use Rattle.limiter.specs.declared.limiter.Asked.{Asked}
+use Rattle.limiter.specs.declared.limiter.Asked.TheVariants.{Unknown, Already, Granted}
 
 abbrev pub asked_of : Option Conn → Asked
 asked_of None = Unknown

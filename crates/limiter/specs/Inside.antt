@@ -1,7 +1,7 @@
 -- Definitions for private contracts: the connections in a map by number.
 use Rattle.std.specs.Prelude.{◌≡◌, ℕ, ◌<◌, ◌^◌, List, [], ◌∷◌}
 use Rattle.std.specs.List.{AllByRecursion}
-use Rattle.limiter.specs.declared.conn.Conn.{Conn}
+use Rattle.limiter.specs.declared.limiter.Conn.{Conn}
 use Rattle.limiter.specs.State.{IsBounded, with_conn}
 
 -- the connections of a map by rising number

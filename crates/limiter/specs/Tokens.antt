@@ -1,7 +1,7 @@
 -- How a connection gets tokens and spends them (`ProcessAddrs` in net_processing.cpp of Bitcoin
 -- Core, which counts fractions of a token; here tenths are counted).
 use Rattle.std.specs.Prelude.{ℕ, ◌+◌, ◌-◌, ◌*◌, ◌/◌, ◌^◌, min, List, [], ◌∷◌, Bool, true, ◌||◌, nat_lt, nat_le, if◌then◌else◌}
-use Rattle.limiter.specs.declared.conn.Conn.{Conn}
+use Rattle.limiter.specs.declared.limiter.Conn.{Conn}
 
 -- A tenth for each second since the connection's last message that was neither refused nor short,
 -- or since it was opened, up to a thousand tokens. A connection that has more keeps them. A clock

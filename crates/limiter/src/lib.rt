@@ -8,12 +8,10 @@
 //! `Limiter` has is above 2,000 tokens, or 1,000 before getaddr (`bounded` of `find`).
 #![tactic(auto)]
 
-mod by_number;
-mod conn;
+mod connections;
 mod limiter;
 mod spending;
 
-pub use conn::{Asked, Conn};
-pub use limiter::Limiter;
+pub use limiter::{Asked, Conn, Limiter};
 pub use net_addr::Memory;
 pub use spending::admitted;

@@ -1,10 +1,42 @@
-use crate::by_number::{admit_in, find_in, getaddr_in, put_in, remove_in};
-use crate::{Asked, Conn, Memory};
+use crate::Memory;
+use crate::connections::{admit_in, find_in, getaddr_in, put_in, remove_in};
 use indexmap::IndexMap;
 use net_addr::NetAddr;
 use std::alloc::Global;
 use std::hash::BuildHasher;
 use std::marker::Model;
+
+/// A connection: the other node's address, and how many of the addresses that it sends are taken
+/// (`Peer` in net_processing.cpp of Bitcoin Core). Tokens are counted in tenths.
+#[derive(Clone, Copy, Debug)]
+pub struct Conn {
+    pub number: u32,
+    pub addr: NetAddr,
+    /// Tenths of a token.
+    pub tenths: u32,
+    /// The clock at the last message that was neither refused nor short, or when the connection was
+    /// opened, in seconds since 1970.
+    pub moment: u32,
+    /// Whether getaddr was sent.
+    pub asked: bool,
+    /// Whether entries are admitted without a token too.
+    pub unlimited: bool,
+    /// How many entries were admitted; a count at its maximum stays there.
+    pub processed: u32,
+    /// How many entries were dropped; a count at its maximum stays there.
+    pub limited: u32,
+}
+
+/// What `getaddr` found.
+#[derive(Clone, Copy, Debug, PartialEq, Eq)]
+pub enum Asked {
+    /// The number has no connection.
+    Unknown,
+    /// The connection was sent getaddr before.
+    Already,
+    /// The connection has its thousand tokens now.
+    Granted,
+}
 
 /// The connections by number. A number is found by one look-up under the caller's hasher.
 #[derive(Drop)]
@@ -15,7 +47,7 @@ pub struct Limiter<H: BuildHasher> {
 impl<H: BuildHasher> Model for Limiter<H> {
     ghost use Rattle.std.specs.Coded.{codes};
     ghost use Rattle.std.specs.Prelude.{List};
-    ghost use Rattle.limiter.specs.declared.conn.Conn.{Conn};
+    ghost use Rattle.limiter.specs.declared.limiter.Conn.{Conn};
     ghost use Rattle.limiter.specs.Inside.{conns_of, AreEntries};
 
     ghost Value = { List Conn };
@@ -30,7 +62,7 @@ impl<H: BuildHasher> Model for Limiter<H> {
 impl<H: BuildHasher> Limiter<H> {
     ghost use Rattle.std.specs.Prelude.{◌≡◌, ◌≤◌, [], Option, Some, List, length, take, is_some, is_none, IfSome, IfOk, OnOk, OnErr, option_map, option_copied};
     ghost use Rattle.net_addr.specs.declared.peer.Entry.{Entry};
-    ghost use Rattle.limiter.specs.declared.conn.Conn.{Conn};
+    ghost use Rattle.limiter.specs.declared.limiter.Conn.{Conn};
     ghost use Rattle.limiter.specs.State.{new_conn, find_conn, without_conn, IsBounded, AreRising};
     ghost use Rattle.limiter.specs.Tokens.{refill, intake, intake_count};
     ghost use Rattle.limiter.specs.Calls.{asked_of, after_open, after_asking, after_taking, after_message};

@@ -12,8 +12,8 @@ use Rattle.log_run.specs.Reading.{IsLine, Reading}
 use Rattle.log_run.specs.Run.{Run}
 use Rattle.log_run.specs.Waiting.{Batch, KeepsWorld, NextLines, StopsAt, in_world}
 use Rattle.log_run.specs.Worlds.{RanIn, StepsIn, WorldStops, both}
-use Rattle.log_run.specs.declared.end.LogEnd.{LogEnd}
-use Rattle.log_run.specs.declared.end.LogEnd.TheVariants.{Fault, WriteFault, Memory}
+use Rattle.log_run.specs.declared.run.LogEnd.{LogEnd}
+use Rattle.log_run.specs.declared.run.LogEnd.TheVariants.{Fault, WriteFault, Memory}
 use Rattle.log_run.specs.declared.sizes.TheConstants.{MAX_LOG}
 use Rattle.log_run.specs.declared.line_steps.Stop.{Stop}
 use Rattle.log_run.specs.declared.line_steps.Stop.TheVariants as stop

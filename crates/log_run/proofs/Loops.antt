@@ -12,8 +12,8 @@ use Rattle.log_run.specs.Reading.{HasMore, HasNoLine, HasRead, IsLine, IsLong, R
 use Rattle.log_run.specs.Reading.IsNext.{fed, last}
 use Rattle.log_run.specs.Run.{EndsBy, NextLine, Run, Streams, last_reply}
 use Rattle.log_run.specs.Worlds.{RanIn, StepsIn, WorldStops, both}
-use Rattle.log_run.specs.declared.end.LogEnd.{LogEnd}
-use Rattle.log_run.specs.declared.end.LogEnd.TheVariants.{Done, Fault, LineTooLong, LogTooLong, ReadFault, WriteFault, Memory}
+use Rattle.log_run.specs.declared.run.LogEnd.{LogEnd}
+use Rattle.log_run.specs.declared.run.LogEnd.TheVariants.{Done, Fault, LineTooLong, LogTooLong, ReadFault, WriteFault, Memory}
 use Rattle.log_run.specs.declared.line_steps.Stop.{Stop}
 use Rattle.log_run.specs.declared.line_steps.Stop.TheVariants as stop
 use Rattle.log_run.specs.declared.sizes.TheConstants.{MAX_LOG}

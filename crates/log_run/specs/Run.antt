@@ -5,8 +5,8 @@ use Rattle.host_io.specs.Lines.{lines_of}
 use Rattle.host_io.specs.Writing.{Appended}
 use Rattle.grammar.specs.declared.fault.LineFault.{LineFault}
 use Rattle.log_run.specs.Log.{BeginsWith, HasNoFeed, IsNear}
-use Rattle.log_run.specs.declared.end.LogEnd.{LogEnd}
-use Rattle.log_run.specs.declared.end.LogEnd.TheVariants.{Done, Fault, LineTooLong, LogTooLong, ReadFault, WriteFault, Memory}
+use Rattle.log_run.specs.declared.run.LogEnd.{LogEnd}
+use Rattle.log_run.specs.declared.run.LogEnd.TheVariants.{Done, Fault, LineTooLong, LogTooLong, ReadFault, WriteFault, Memory}
 use Rattle.log_run.specs.declared.sizes.TheConstants.{MAX_LINE, MAX_LOG}
 
 -- what a step is

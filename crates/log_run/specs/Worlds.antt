@@ -2,7 +2,7 @@
 use Rattle.std.specs.Prelude.{◌≡◌, ◌⊎◌, ℕ, List}
 use Rattle.grammar.specs.declared.fault.LineFault.{LineFault}
 use Rattle.log_run.specs.Run.{Ran, Steps, Streams}
-use Rattle.log_run.specs.declared.end.LogEnd.{LogEnd}
+use Rattle.log_run.specs.declared.run.LogEnd.{LogEnd}
 
 -- a step of a state and a world
 abbrev pub StepsIn : Type 0 → Type 0 → Type 1

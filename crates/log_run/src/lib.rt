@@ -11,17 +11,11 @@
 #![tactic(auto)]
 
 mod buffer;
-mod end;
-mod feed;
-mod law;
 mod line_steps;
-mod reader;
-mod room;
+mod log_reader;
 mod run;
 mod sizes;
 
-pub use end::LogEnd;
-pub use law::limits;
 pub use line_steps::{LineSteps, Stop};
-pub use run::run_log;
-pub use sizes::{MAX_LINE, MAX_LOG, MAX_READ};
+pub use run::{LogEnd, run_log};
+pub use sizes::{MAX_LINE, MAX_LOG, MAX_READ, limits};

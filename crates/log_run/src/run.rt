@@ -6,12 +6,31 @@ ghost use Rattle.log_run.specs.Waiting.{Batch, KeepsWorld};
 ghost use Rattle.log_run.specs.Worlds.{RanIn};
 ghost use Rattle.log_run.specs.declared.sizes.TheConstants.{MAX_LOG};
 
-use crate::end::{LogEnd, LogFault};
 use crate::line_steps::{LineSteps, Stop};
-use crate::reader::LogReader;
+use crate::log_reader::{LogFault, LogReader};
 use crate::sizes::MAX_LOG;
 use host_io::{PIECE, Sink, Source, write_all};
+use log_lines::LineFault;
 use std::alloc::Global;
+
+/// How the run over a log ends. Lines are counted from 1.
+#[derive(Clone, Copy, Debug, PartialEq, Eq)]
+pub enum LogEnd {
+    /// The log was read to its end, and all replies are written.
+    Done,
+    /// A line has an error.
+    Fault { line: u64, fault: LineFault },
+    /// A line has more bytes than `MAX_LINE`.
+    LineTooLong { line: u64 },
+    /// The log has more bytes than `MAX_LOG`.
+    LogTooLong,
+    /// The log cannot be read.
+    ReadFault,
+    /// The output cannot be written.
+    WriteFault,
+    /// Out of memory.
+    Memory,
+}
 
 /// Returns how a run ends at the line with this number, which is not carried out.
 fn end_at(stop: Stop, line: u64) -> LogEnd

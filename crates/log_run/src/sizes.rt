@@ -1,3 +1,6 @@
+ghost use Rattle.std.specs.Prelude.{◌≡◌, ◌^◌};
+ghost use Rattle.log_run.specs.declared.sizes.TheConstants.{MAX_LINE, MAX_LOG, MAX_READ};
+
 use host_io::PIECE;
 
 /// The maximum size of a log in bytes.
@@ -8,3 +11,10 @@ pub const MAX_LINE: usize = 2_000_000;
 
 /// The maximum number of bytes that one read takes.
 pub const MAX_READ: usize = PIECE;
+
+/// The limits as numbers.
+pub fn limits()
+    ensures log { MAX_LOG ≡ 2 ^ 30 }
+    ensures line { MAX_LINE ≡ 2000000 }
+    ensures read { MAX_READ ≡ 65536 }
+{}

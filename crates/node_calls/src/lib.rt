@@ -8,18 +8,14 @@
 //! `file_length` is the length of the file that `peers_file::write_file` makes of the snapshot.
 #![tactic(auto)]
 
-mod chosen;
-mod entries;
-mod first;
-mod length;
-mod marks;
+mod adding;
+mod adding_chosen;
+mod attempts;
 mod picks;
-mod reads;
+mod records;
 
-pub use chosen::{take_chosen, take_unbanned};
-pub use entries::{add, take_message};
-pub use first::take_first;
-pub use length::file_length;
-pub use marks::{attempt, connected, good, services};
+pub use adding::{add, take_first, take_message};
+pub use adding_chosen::{take_chosen, take_unbanned};
+pub use attempts::{attempt, connected, good, services};
 pub use picks::{clash_pick, resolve, sample, select};
-pub use reads::{find, recs, restore, snapshot};
+pub use records::{file_length, find, recs, restore, snapshot};

@@ -13,7 +13,7 @@ use Rattle.table_groups.proofs.Sorted.{order-all, order-sum, weaker}
 use Rattle.table_groups.proofs.Visits.{count-cons, count-map, one_if}
 use Rattle.table_groups.specs.Groups.{counted_address, counted_group, counted_of, counts_for, groups_in, numbers_of, row_of, rows_of}
 use Rattle.table_groups.specs.Tally.{once}
-use Rattle.table_groups.specs.declared.order.Counted.{Counted}
+use Rattle.table_groups.specs.declared.ranked_groups.Counted.{Counted}
 use Rattle.table_machine.proofs.Lists.{Contains-head, Contains-tail, find-IsSome, find-None, find-Some}
 use Rattle.node_json.specs.Groups.{ListsGroups, group_members, group_object, groups_array, items_by, row_items}
 use Rattle.node_json.specs.Value.{array_of, object_of}

@@ -8,7 +8,7 @@ use Rattle.json.specs.Json.{Json}
 use Rattle.json.specs.Tree.{json_tokens, items_tokens, depth, items_depth}
 use Rattle.ban_list.specs.Bans.{current_by, lasts}
 use Rattle.ban_list.specs.declared.ban.Ban.{Ban}
-use Rattle.ban_list.specs.declared.rule.BanRule.{BanRule}
+use Rattle.ban_list.specs.declared.ban.BanRule.{BanRule}
 use Rattle.node_json.specs.Bans.{ban_json, bans_json}
 use Rattle.node_json.specs.Inside.{items_tokens_of}
 use Rattle.node_json.specs.Value.{array_of, items_of}

@@ -17,8 +17,8 @@ use Rattle.table_groups.specs.Groups.{rows_of}
 use Rattle.table_groups.specs.Names.{name_of}
 use Rattle.table_groups.specs.Plain.{IsPlain, is_plain}
 use Rattle.placing.specs.Places.{Places, asn}
-use Rattle.table_groups.specs.declared.row.Numbers.{Numbers}
-use Rattle.table_groups.specs.declared.row.Row.{Row}
+use Rattle.table_groups.specs.declared.ranked_groups.Numbers.{Numbers}
+use Rattle.table_groups.specs.declared.ranked_groups.Row.{Row}
 use Rattle.node_json.specs.Groups.{group_members, groups_array, groups_json, groups_members, health_members, is_clearnet, items_by, number_members, row_items, totals_by}
 use Rattle.node_json.specs.Inside.{items_tokens_of, tokens_of}
 use Rattle.node_json.specs.Value.{array_of, items_of, json_number, unless_zero}

@@ -13,8 +13,8 @@ use Rattle.table_groups.proofs.Sorted.{order-sum}
 use Rattle.table_groups.proofs.Visits.{one_if}
 use Rattle.table_groups.specs.Groups.{counted_group, counted_of, counts_for, groups_in, numbers_of, row_of, rows_of}
 use Rattle.table_groups.specs.Slots.{is_of, new_slots}
-use Rattle.table_groups.specs.declared.order.Counted.{Counted}
-use Rattle.table_groups.specs.declared.row.Row.{Row}
+use Rattle.table_groups.specs.declared.ranked_groups.Counted.{Counted}
+use Rattle.table_groups.specs.declared.ranked_groups.Row.{Row}
 use Rattle.table_machine.proofs.Lists.{find-Some}
 use Rattle.table_machine.specs.State.{State, is_new_at, new_rec_at}
 use Rattle.node_json.proofs.Counts.{counts_all}

@@ -4,7 +4,7 @@ use Rattle.json.specs.Json.{Json, string}
 use Rattle.ban_list.specs.Bans.{current_by}
 use Rattle.ban_list.specs.SubnetText.{subnet_name}
 use Rattle.ban_list.specs.declared.ban.Ban.{Ban}
-use Rattle.ban_list.specs.declared.rule.BanRule.{BanRule}
+use Rattle.ban_list.specs.declared.ban.BanRule.{BanRule}
 use Rattle.node_json.specs.Value.{Member, array_of, json_number, object_of}
 
 -- the members of a ban, in the order of `listbanned`

@@ -12,8 +12,8 @@ use Rattle.placing.specs.Places.{Places, asn}
 use Rattle.table_groups.specs.Groups.{counted_address, counted_group, groups_in, numbers_of, rows_of}
 use Rattle.table_groups.specs.Names.{name_of}
 use Rattle.table_groups.specs.Slots.{new_slots}
-use Rattle.table_groups.specs.declared.row.Numbers.{Numbers}
-use Rattle.table_groups.specs.declared.row.Row.{Row}
+use Rattle.table_groups.specs.declared.ranked_groups.Numbers.{Numbers}
+use Rattle.table_groups.specs.declared.ranked_groups.Row.{Row}
 use Rattle.node_json.specs.Value.{Member, array_of, json_number, object_of, unless_zero}
 use Rattle.table_groups.specs.View.{View}
 

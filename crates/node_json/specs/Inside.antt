@@ -10,7 +10,7 @@ use Rattle.placing.specs.Places.{Places, asn}
 use Rattle.peer_rec.specs.declared.rec.Rec.{Rec}
 use Rattle.node_json.specs.Groups.{row_items}
 use Rattle.node_json.specs.Raw.{class_name}
-use Rattle.table_groups.specs.declared.row.Row.{Row}
+use Rattle.table_groups.specs.declared.ranked_groups.Row.{Row}
 use Rattle.node_json.specs.Value.{Member, json_number, unless_zero}
 
 abbrev pub tokens_of : List Member → List Token

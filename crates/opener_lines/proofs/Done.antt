@@ -25,8 +25,8 @@ use Rattle.opener_lines.specs.Tries.{HasOutcome, try_by, ToKeep, ToTest}
 use Rattle.opener_lines.specs.declared.tries.Outcome.{Outcome}
 use Rattle.opener_lines.specs.declared.command.OpenerCommand.{OpenerCommand}
 use Rattle.opener_lines.specs.declared.command.OpenerCommand.TheVariants as request
-use Rattle.opener_lines.specs.declared.word.OpenerWord.{OpenerWord}
-use Rattle.opener_lines.specs.declared.word.OpenerWord.TheVariants.{Outbound, Feeler, Close, Log}
+use Rattle.opener_lines.specs.declared.command.OpenerWord.{OpenerWord}
+use Rattle.opener_lines.specs.declared.command.OpenerWord.TheVariants.{Outbound, Feeler, Close, Log}
 use Rattle.opener_lines.proofs.Outcomes.{some_outcome}
 
 -- ---- of a result

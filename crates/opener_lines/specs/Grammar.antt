@@ -12,8 +12,8 @@ use Rattle.log_lines.specs.declared.command.Command.{Command}
 use Rattle.log_lines.specs.declared.word.CommandWord.TheVariants as v
 use Rattle.opener_lines.specs.declared.command.OpenerCommand.{OpenerCommand}
 use Rattle.opener_lines.specs.declared.command.OpenerCommand.TheVariants as request
-use Rattle.opener_lines.specs.declared.word.OpenerWord.{OpenerWord}
-use Rattle.opener_lines.specs.declared.word.OpenerWord.TheVariants.{Outbound, Feeler, Close, Log}
+use Rattle.opener_lines.specs.declared.command.OpenerWord.{OpenerWord}
+use Rattle.opener_lines.specs.declared.command.OpenerWord.TheVariants.{Outbound, Feeler, Close, Log}
 
 -- the first word of a line
 abbrev pub opener_word : OpenerWord → List ℕ

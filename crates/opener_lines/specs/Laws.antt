@@ -10,8 +10,8 @@ use Rattle.log_lines.specs.Spelling.{command_values, kinds_of}
 use Rattle.opener_lines.specs.Grammar.{AsksAfter, AsksBy, FaultAfter, FaultBy, verb_at, verbs, opener_word}
 use Rattle.opener_lines.specs.declared.command.OpenerCommand.{OpenerCommand}
 use Rattle.opener_lines.specs.declared.command.OpenerCommand.TheVariants as request
-use Rattle.opener_lines.specs.declared.word.OpenerWord.{OpenerWord}
-use Rattle.opener_lines.specs.declared.word.OpenerWord.TheVariants.{Outbound, Feeler, Close, Log}
+use Rattle.opener_lines.specs.declared.command.OpenerWord.{OpenerWord}
+use Rattle.opener_lines.specs.declared.command.OpenerWord.TheVariants.{Outbound, Feeler, Close, Log}
 
 abbrev peer_in : Peer → Value → Peer
 peer_in p (ThePeer q) = q

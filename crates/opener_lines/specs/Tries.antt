@@ -14,7 +14,7 @@ use Rattle.peer_open.specs.Verdicts.{judge, judge_feeler}
 use Rattle.peer_open.specs.declared.opener.TheConstants.{MAX_TRIES}
 use Rattle.peer_open.specs.declared.outbound.Verdict.{Verdict}
 use Rattle.peer_open.specs.declared.outbound.Verdict.TheVariants as verdict
-use Rattle.opener_lines.specs.declared.pick.TheConstants.{TRY_WORDS}
+use Rattle.opener_lines.specs.declared.tries.TheConstants.{TRY_WORDS}
 use Rattle.opener_lines.specs.declared.tries.Outcome.{Outcome}
 use Rattle.opener_lines.specs.declared.tries.Outcome.TheVariants.{Taken, GaveUp}
 use Rattle.opener_lines.specs.declared.tries.Outcome.TheVariants as outcome

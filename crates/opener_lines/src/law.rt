@@ -10,7 +10,7 @@ ghost use Rattle.opener_lines.specs.State.{Answer, OpenerState, RequestStep};
 ghost use Rattle.opener_lines.specs.Tries.{HasOutcome, Try};
 ghost use Rattle.opener_lines.specs.declared.command.OpenerCommand.{OpenerCommand};
 ghost use Rattle.opener_lines.specs.declared.tries.Outcome.{Outcome};
-ghost use Rattle.opener_lines.specs.declared.pick.TheConstants.{TRY_WORDS};
+ghost use Rattle.opener_lines.specs.declared.tries.TheConstants.{TRY_WORDS};
 
 use crate::TRY_WORDS;
 

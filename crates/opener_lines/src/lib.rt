@@ -8,24 +8,18 @@
 //! Not said: how many steps a line takes.
 #![tactic(auto)]
 
-mod carry_out;
 mod command;
 mod law;
-mod line;
 mod opener_log;
-mod pick;
 mod print;
 mod read;
+mod requests;
 mod tries;
-mod word;
 
-pub use command::OpenerCommand;
+pub use command::{OpenerCommand, OpenerWord};
 pub use law::{
     groups_stay_apart, limits, opener_lines_have_one_meaning, tries_are_fair, tries_end_once,
 };
-pub use line::opener_line;
-pub use opener_log::OpenerLog;
-pub use pick::TRY_WORDS;
+pub use opener_log::{OpenerLog, opener_line};
 pub use read::read_request;
-pub use tries::Outcome;
-pub use word::OpenerWord;
+pub use tries::{Outcome, TRY_WORDS};

@@ -5,7 +5,7 @@ ghost use Rattle.opener_lines.specs.Grammar.{LineAsks, AsksAfter, AsksBy, FaultA
 ghost use Rattle.opener_lines.specs.Laws.{no_fault, one_asked, one_fault};
 ghost use Rattle.opener_lines.specs.declared.command.OpenerCommand.{OpenerCommand};
 
-use crate::word::KEYWORDS;
+use crate::command::KEYWORDS;
 use crate::{OpenerCommand, OpenerWord};
 use grammar::{
     Between, Grammar, LineFault, LongBetween, OnePeer, Texts, find_keyword, read_fields, read_line,

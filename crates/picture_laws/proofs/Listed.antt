@@ -12,7 +12,7 @@ use Rattle.table_groups.specs.Order.{comes_before, in_order}
 use Rattle.table_groups.specs.Slots.{all_slots, is_of}
 use Rattle.table_groups.specs.Sources.{counted_source, slot_groups, source_of, sources_of}
 use Rattle.table_groups.specs.Tally.{once}
-use Rattle.table_groups.specs.declared.order.Counted.{Counted}
+use Rattle.table_groups.specs.declared.ranked_groups.Counted.{Counted}
 use Rattle.table_groups.specs.declared.sources.Source.{Source}
 use Rattle.table_groups.proofs.Once.{once-count, same-back}
 use Rattle.table_groups.proofs.Sorted.{IsUp, order-all, order-sum, order-up}

@@ -10,7 +10,7 @@ use Rattle.peer_rec.specs.declared.rec.Rec.{Rec}
 use Rattle.placing.specs.Places.{group}
 use Rattle.table_groups.specs.Slots.{all_slots, is_of}
 use Rattle.table_groups.specs.Sources.{slot_groups}
-use Rattle.table_groups.specs.declared.order.Counted.{Counted}
+use Rattle.table_groups.specs.declared.ranked_groups.Counted.{Counted}
 use Rattle.table_groups.proofs.Buckets.{groups-count}
 use Rattle.table_groups.proofs.Once.{same-back}
 use Rattle.table_groups.proofs.Visits.{one_if}

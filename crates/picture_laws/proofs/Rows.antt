@@ -8,7 +8,7 @@ use Rattle.picture_text.specs.Maps.{name_at}
 use Rattle.picture_text.specs.Picture.{free_row, group_row, group_rows, in_new, in_tried, occupied, others_name, others_text, source_at, titles_text, top_of}
 use Rattle.table_groups.specs.Slots.{all_slots, new_slots, tried_slots}
 use Rattle.table_groups.specs.Sources.{source_of}
-use Rattle.table_groups.specs.declared.order.Counted.{Counted}
+use Rattle.table_groups.specs.declared.ranked_groups.Counted.{Counted}
 use Rattle.table_groups.specs.declared.sources.Source.{Source}
 use Rattle.table_groups.proofs.Once.{same-back}
 use Rattle.table_groups.proofs.Visits.{count-cons, one_if}

@@ -10,7 +10,7 @@ use Rattle.picture_text.specs.Elements.{wide_text}
 use Rattle.picture_text.specs.Picture.{wide_of}
 use Rattle.table_groups.specs.Slots.{is_of, new_buckets, new_slots}
 use Rattle.table_groups.specs.Sources.{slot_groups, source_of, sources_of}
-use Rattle.table_groups.specs.declared.order.Counted.{Counted}
+use Rattle.table_groups.specs.declared.ranked_groups.Counted.{Counted}
 use Rattle.table_groups.specs.declared.sources.Source.{Source}
 use Rattle.table_groups.proofs.Buckets.{groups-count}
 use Rattle.table_groups.proofs.Visits.{count-cons, count-map, one_if}

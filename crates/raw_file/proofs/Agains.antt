@@ -10,10 +10,10 @@ use Rattle.net_addr.specs.declared.peer.Peer.{Peer}
 use Rattle.peer_rec.specs.Snapshot.{Snapshot}
 use Rattle.peer_rec.specs.declared.file_rec.FileRec.{FileRec}
 use Rattle.raw_read.specs.Raw.{IsRaw}
-use Rattle.raw_read.specs.declared.fault.RawFault.{RawFault}
-use Rattle.raw_read.specs.declared.row.Raw.{Raw}
-use Rattle.raw_read.specs.declared.row.RawRow.{RawRow}
-use Rattle.raw_read.specs.declared.row.RawTable.TheVariants.{New, Tried}
+use Rattle.raw_read.specs.declared.raw.RawFault.{RawFault}
+use Rattle.raw_read.specs.declared.raw.Raw.{Raw}
+use Rattle.raw_read.specs.declared.raw.RawRow.{RawRow}
+use Rattle.raw_read.specs.declared.raw.RawTable.TheVariants.{New, Tried}
 use Rattle.slot_grid.specs.declared.sizes.TheConstants.{NEW_BUCKETS}
 use Rattle.raw_file.specs.Faults.{HasListingFault, IsListing}
 use Rattle.raw_file.specs.Listing.{again_at, differs, first_again, first_fault, first_twice, firsts, is_again, known_rec, new_recs, or_else, peers_of, recs_of, same_spot, snapshot_of, spot_of, with_rec}

@@ -14,10 +14,10 @@ use Rattle.peer_rec.specs.declared.file_rec.FileRec.{FileRec}
 use Rattle.peer_rec.specs.declared.file_rec.TheConstants.{MAX_ATTEMPTS}
 use Rattle.peer_rec.specs.declared.snapshot.TheConstants.{MAX_NEW, MAX_TRIED}
 use Rattle.raw_read.specs.Rows.{AreRows, IsRow, Member, buckets_of, slot_number}
-use Rattle.raw_read.specs.declared.row.Raw.{Raw}
-use Rattle.raw_read.specs.declared.row.RawRow.{RawRow}
-use Rattle.raw_read.specs.declared.row.RawTable.{RawTable}
-use Rattle.raw_read.specs.declared.row.RawTable.TheVariants.{New, Tried}
+use Rattle.raw_read.specs.declared.raw.Raw.{Raw}
+use Rattle.raw_read.specs.declared.raw.RawRow.{RawRow}
+use Rattle.raw_read.specs.declared.raw.RawTable.{RawTable}
+use Rattle.raw_read.specs.declared.raw.RawTable.TheVariants.{New, Tried}
 use Rattle.raw_file.specs.Inside.{AreRowsOf}
 use Rattle.raw_file.specs.Listing.{differs, firsts, index_of, known_rec, new_recs, pair_of, peers_of, recs_of, says_same, with_rec}
 use Rattle.raw_file.proofs.Agains.{absent, present}

@@ -1,11 +1,11 @@
 -- The text for each fault of a listing.
 use Rattle.std.specs.Prelude.{ℕ, List, ◌++◌, codes, decimal}
-use Rattle.raw_read.specs.declared.fault.Field.{Field}
-use Rattle.raw_read.specs.declared.fault.Field.TheVariants.{Address, Port, Services, Time, Source}
-use Rattle.raw_read.specs.declared.fault.RawFault.{RawFault}
-use Rattle.raw_read.specs.declared.fault.RawFault.TheVariants as raw
-use Rattle.raw_read.specs.declared.row.RawTable.{RawTable}
-use Rattle.raw_read.specs.declared.row.RawTable.TheVariants.{New, Tried}
+use Rattle.raw_read.specs.declared.raw.Field.{Field}
+use Rattle.raw_read.specs.declared.raw.Field.TheVariants.{Address, Port, Services, Time, Source}
+use Rattle.raw_read.specs.declared.raw.RawFault.{RawFault}
+use Rattle.raw_read.specs.declared.raw.RawFault.TheVariants as raw
+use Rattle.raw_read.specs.declared.raw.RawTable.{RawTable}
+use Rattle.raw_read.specs.declared.raw.RawTable.TheVariants.{New, Tried}
 use Rattle.raw_file.specs.declared.fault.ListingFault.{ListingFault}
 use Rattle.raw_file.specs.declared.fault.ListingFault.TheVariants.{Text, Again, Memory}
 

@@ -2,7 +2,7 @@
 use Rattle.std.specs.Prelude.{◌≡◌, ℕ, List, Some, None}
 use Rattle.peer_rec.specs.Snapshot.{Snapshot}
 use Rattle.raw_read.specs.Raw.{HasRawFault, IsRaw}
-use Rattle.raw_read.specs.declared.row.Raw.{Raw}
+use Rattle.raw_read.specs.declared.raw.Raw.{Raw}
 use Rattle.raw_file.specs.Listing.{first_fault, snapshot_of}
 use Rattle.raw_file.specs.declared.fault.ListingFault.{ListingFault}
 use Rattle.raw_file.specs.declared.fault.ListingFault.TheVariants.{Text}

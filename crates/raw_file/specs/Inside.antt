@@ -1,8 +1,8 @@
 -- Words of private contracts.
 use Rattle.std.specs.Prelude.{List}
 use Rattle.raw_read.specs.Rows.{AreRows, Member}
-use Rattle.raw_read.specs.declared.row.Raw.{Raw}
-use Rattle.raw_read.specs.declared.row.RawTable.TheVariants.{New, Tried}
+use Rattle.raw_read.specs.declared.raw.Raw.{Raw}
+use Rattle.raw_read.specs.declared.raw.RawTable.TheVariants.{New, Tried}
 
 -- the rows are those of some members
 pub record AreRowsOf (raw : Raw) : Type 0 where

@@ -5,10 +5,10 @@ use Rattle.net_addr.specs.Same.{same_address, same_peer}
 use Rattle.net_addr.specs.declared.peer.Peer.{Peer}
 use Rattle.peer_rec.specs.Snapshot.{Snapshot, snapshot}
 use Rattle.peer_rec.specs.declared.file_rec.FileRec.{FileRec}
-use Rattle.raw_read.specs.declared.row.Raw.{Raw}
-use Rattle.raw_read.specs.declared.row.RawRow.{RawRow}
-use Rattle.raw_read.specs.declared.row.RawTable.{RawTable}
-use Rattle.raw_read.specs.declared.row.RawTable.TheVariants.{New, Tried}
+use Rattle.raw_read.specs.declared.raw.Raw.{Raw}
+use Rattle.raw_read.specs.declared.raw.RawRow.{RawRow}
+use Rattle.raw_read.specs.declared.raw.RawTable.{RawTable}
+use Rattle.raw_read.specs.declared.raw.RawTable.TheVariants.{New, Tried}
 use Rattle.raw_file.specs.declared.fault.ListingFault.{ListingFault}
 use Rattle.raw_file.specs.declared.fault.ListingFault.TheVariants.{Again}
 use Rattle.raw_file.specs.declared.spot.Spot.{Spot}

@@ -4,7 +4,7 @@ ghost use Rattle.net_addr.specs.Same.{same_peer};
 ghost use Rattle.peer_rec.specs.declared.file_rec.FileRec.{FileRec};
 ghost use Rattle.raw_file.specs.Listing.{again_at, differs, first_again, first_twice, firsts, known_rec, pair_of, peers_of, recs_of, says_same, same_spot, spot_of, with_rec};
 ghost use Rattle.raw_file.specs.declared.fault.ListingFault.TheVariants as faults;
-ghost use Rattle.raw_read.specs.declared.row.RawTable.TheVariants.{New, Tried};
+ghost use Rattle.raw_read.specs.declared.raw.RawTable.TheVariants.{New, Tried};
 
 use crate::ListingFault;
 use crate::spot::Spot;

@@ -12,7 +12,7 @@ use Rattle.peer_rec.specs.declared.rec.Rec.{Rec}
 use Rattle.placing.specs.Places.{Places}
 use Rattle.raw_read.specs.Raw.{HasTables, IsRaw}
 use Rattle.raw_read.specs.Rows.{AreRows, Member, buckets_of, list_of, next_slot, slot_number}
-use Rattle.raw_read.specs.declared.row.RawTable.{RawTable}
+use Rattle.raw_read.specs.declared.raw.RawTable.{RawTable}
 use Rattle.slot_grid.specs.declared.sizes.TheConstants.{SLOTS}
 use Rattle.table_machine.specs.State.{State, is_new_at, is_tried_at}
 use Rattle.raw_laws.specs.Printed.{IsPrintable, IsPrinted, bucket_rows, raw_of, row_of, table_of, table_rows}

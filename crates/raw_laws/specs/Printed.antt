@@ -11,10 +11,10 @@ use Rattle.node_json.specs.declared.table.Table.TheVariants.{New, Tried}
 use Rattle.peer_rec.specs.declared.file_rec.FileRec.{FileRec}
 use Rattle.peer_rec.specs.declared.rec.Rec.{Rec}
 use Rattle.raw_read.specs.Rows.{buckets_of}
-use Rattle.raw_read.specs.declared.row.Raw.{Raw}
-use Rattle.raw_read.specs.declared.row.RawRow.{RawRow}
-use Rattle.raw_read.specs.declared.row.RawTable.{RawTable}
-use Rattle.raw_read.specs.declared.row.RawTable.TheVariants as read
+use Rattle.raw_read.specs.declared.raw.Raw.{Raw}
+use Rattle.raw_read.specs.declared.raw.RawRow.{RawRow}
+use Rattle.raw_read.specs.declared.raw.RawTable.{RawTable}
+use Rattle.raw_read.specs.declared.raw.RawTable.TheVariants as read
 use Rattle.slot_grid.specs.declared.sizes.TheConstants.{SLOTS}
 use Rattle.table_machine.specs.State.{State}
 

@@ -21,8 +21,8 @@ use Rattle.names.proofs.Letters.{few_letters, letters_address}
 use Rattle.names.proofs.Readings.{IsUnique}
 use Rattle.peer_rec.specs.declared.file_rec.FileRec.{FileRec}
 use Rattle.raw_read.specs.Fields.{IsAddressAt, IsNumberAt, IsPlainText, IsRawName, IsRec, HasField, is_local, text_at}
-use Rattle.raw_read.specs.declared.fault.Field.{Field}
-use Rattle.raw_read.specs.declared.fault.Field.TheVariants.{Address as an_address, Port, Services, Time, Source}
+use Rattle.raw_read.specs.declared.raw.Field.{Field}
+use Rattle.raw_read.specs.declared.raw.Field.TheVariants.{Address as an_address, Port, Services, Time, Source}
 
 pub same_some : {A : Type 0} (x y : A) → Some x ≡ Some y → x ≡ y
 same_some {A} x y e = ap (λ (o : Option A). unwrap_or o x) e

@@ -5,14 +5,14 @@ use Rattle.json.specs.Json.{Json}
 use Rattle.raw_read.specs.Fields.{Lacks}
 use Rattle.raw_read.specs.Raw.{HasMemberFault, HasNoForm, HasRawFault, HasTables, IsJson, IsRaw}
 use Rattle.raw_read.specs.Rows.{AreRows, HasRowFault, HasTableFault, IsRow, Member, next_slot}
-use Rattle.raw_read.specs.declared.fault.Field.{Field}
-use Rattle.raw_read.specs.declared.fault.Field.TheVariants.{Address as an_address, Port, Services, Time, Source}
-use Rattle.raw_read.specs.declared.fault.RawFault.{RawFault}
-use Rattle.raw_read.specs.declared.fault.RawFault.TheVariants.{Json as no_json, Form, Slot, Row, TooLarge, Memory}
-use Rattle.raw_read.specs.declared.row.Raw.{Raw}
-use Rattle.raw_read.specs.declared.row.RawRow.{RawRow}
-use Rattle.raw_read.specs.declared.row.RawTable.{RawTable}
-use Rattle.raw_read.specs.declared.row.RawTable.TheVariants.{New, Tried}
+use Rattle.raw_read.specs.declared.raw.Field.{Field}
+use Rattle.raw_read.specs.declared.raw.Field.TheVariants.{Address as an_address, Port, Services, Time, Source}
+use Rattle.raw_read.specs.declared.raw.RawFault.{RawFault}
+use Rattle.raw_read.specs.declared.raw.RawFault.TheVariants.{Json as no_json, Form, Slot, Row, TooLarge, Memory}
+use Rattle.raw_read.specs.declared.raw.Raw.{Raw}
+use Rattle.raw_read.specs.declared.raw.RawRow.{RawRow}
+use Rattle.raw_read.specs.declared.raw.RawTable.{RawTable}
+use Rattle.raw_read.specs.declared.raw.RawTable.TheVariants.{New, Tried}
 use Rattle.raw_read.proofs.RawLaws.{no_raw_fault, one_json, one_tables}
 use Rattle.raw_read.proofs.RowLaws.{no_fault, no_row_fault, number, one_row}
 use Rattle.raw_read.proofs.SlotNames.{one_slot}

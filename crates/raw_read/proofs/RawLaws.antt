@@ -11,11 +11,11 @@ use Rattle.json.specs.declared.value.Value.{Value}
 use Rattle.raw_read.specs.Inside.{member_view}
 use Rattle.raw_read.specs.Raw.{HasMemberFault, HasRawFault, HasTables, IsJson, IsRaw, IsWithoutEnd, members_at}
 use Rattle.raw_read.specs.Rows.{AreRows, HasRowFault, Member, list_of}
-use Rattle.raw_read.specs.declared.fault.RawFault.{RawFault}
-use Rattle.raw_read.specs.declared.fault.RawFault.TheVariants.{Json as no_json, Form, Slot, Row, TooLarge, Memory}
-use Rattle.raw_read.specs.declared.row.Raw.{Raw}
-use Rattle.raw_read.specs.declared.row.RawTable.{RawTable}
-use Rattle.raw_read.specs.declared.row.RawTable.TheVariants.{New, Tried}
+use Rattle.raw_read.specs.declared.raw.RawFault.{RawFault}
+use Rattle.raw_read.specs.declared.raw.RawFault.TheVariants.{Json as no_json, Form, Slot, Row, TooLarge, Memory}
+use Rattle.raw_read.specs.declared.raw.Raw.{Raw}
+use Rattle.raw_read.specs.declared.raw.RawTable.{RawTable}
+use Rattle.raw_read.specs.declared.raw.RawTable.TheVariants.{New, Tried}
 use Rattle.raw_read.proofs.FieldLaws.{same_some}
 use Rattle.raw_read.proofs.RowLaws.{list-view, no_fault, rows-one}
 

@@ -7,10 +7,10 @@ use Rattle.json.specs.Value.{members_view}
 use Rattle.json.specs.declared.value.Value.{Value}
 use Rattle.raw_read.specs.Inside.{member_view}
 use Rattle.raw_read.specs.Rows.{AreRows, HasRowFault, HasTableFault, IsRow, Member, list_of, next_slot, slot_number}
-use Rattle.raw_read.specs.declared.fault.RawFault.{RawFault}
-use Rattle.raw_read.specs.declared.fault.RawFault.TheVariants.{Json as no_json, Form, Slot, Row, TooLarge, Memory}
-use Rattle.raw_read.specs.declared.row.RawRow.{RawRow}
-use Rattle.raw_read.specs.declared.row.RawTable.{RawTable}
+use Rattle.raw_read.specs.declared.raw.RawFault.{RawFault}
+use Rattle.raw_read.specs.declared.raw.RawFault.TheVariants.{Json as no_json, Form, Slot, Row, TooLarge, Memory}
+use Rattle.raw_read.specs.declared.raw.RawRow.{RawRow}
+use Rattle.raw_read.specs.declared.raw.RawTable.{RawTable}
 use Rattle.raw_read.proofs.FieldLaws.{has_fields, one_rec}
 use Rattle.raw_read.proofs.SlotNames.{one_slot}
 

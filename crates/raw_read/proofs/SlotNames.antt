@@ -4,8 +4,8 @@ use Rattle.std.proofs.lemmas.Fmt.{decimal_is_IsNumeral, decimal_injective}
 use Rattle.std.proofs.lemmas.Str.Parse.{digit_at}
 use Rattle.std.proofs.lemmas.List.Elements.{All-head, All-tail, All-from_get_or}
 use Rattle.raw_read.specs.Rows.{IsSlot, buckets_of}
-use Rattle.raw_read.specs.declared.row.RawTable.{RawTable}
-use Rattle.raw_read.specs.declared.row.RawTable.TheVariants.{New, Tried}
+use Rattle.raw_read.specs.declared.raw.RawTable.{RawTable}
+use Rattle.raw_read.specs.declared.raw.RawTable.TheVariants.{New, Tried}
 
 abbrev NoSlash : List ℕ → Type 0
 NoSlash = All (λ c. c ≢ 47)

@@ -11,8 +11,8 @@ use Rattle.net_addr.specs.Address.{Address}
 use Rattle.net_addr.specs.OldForm.{from_v1}
 use Rattle.net_addr.specs.Text.{IsIpv6Text}
 use Rattle.peer_rec.specs.declared.file_rec.FileRec.{FileRec}
-use Rattle.raw_read.specs.declared.fault.Field.{Field}
-use Rattle.raw_read.specs.declared.fault.Field.TheVariants.{Address as an_address, Port, Services, Time, Source}
+use Rattle.raw_read.specs.declared.raw.Field.{Field}
+use Rattle.raw_read.specs.declared.raw.Field.TheVariants.{Address as an_address, Port, Services, Time, Source}
 
 -- the text under a name
 abbrev pub text_at : List ℕ → Json → Option (List ℕ)

@@ -4,11 +4,11 @@ use Rattle.std.specs.Prelude.{◌≡◌, ◌⊎◌, ◌≢◌, ℕ, List, ◌++�
 use Rattle.json.specs.Json.{Json, document}
 use Rattle.json.specs.Find.{get, as_object}
 use Rattle.raw_read.specs.Rows.{AreRows, HasTableFault, Member, list_of}
-use Rattle.raw_read.specs.declared.fault.RawFault.{RawFault}
-use Rattle.raw_read.specs.declared.fault.RawFault.TheVariants.{Json as no_json, Form}
-use Rattle.raw_read.specs.declared.row.Raw.{Raw}
-use Rattle.raw_read.specs.declared.row.RawRow.{RawRow}
-use Rattle.raw_read.specs.declared.row.RawTable.TheVariants.{New, Tried}
+use Rattle.raw_read.specs.declared.raw.RawFault.{RawFault}
+use Rattle.raw_read.specs.declared.raw.RawFault.TheVariants.{Json as no_json, Form}
+use Rattle.raw_read.specs.declared.raw.Raw.{Raw}
+use Rattle.raw_read.specs.declared.raw.RawRow.{RawRow}
+use Rattle.raw_read.specs.declared.raw.RawTable.TheVariants.{New, Tried}
 
 -- the text without the line feed at its end, if it has one
 abbrev pub IsWithoutEnd : List ℕ → List ℕ → Type 0

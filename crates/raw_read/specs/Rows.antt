@@ -3,11 +3,11 @@ use Rattle.std.specs.Prelude.{◌≡◌, ℕ, ◌+◌, ◌*◌, ◌<◌, ◌≤�
 use Rattle.json.specs.Json.{Json, Members, no_members, member}
 use Rattle.slot_grid.specs.declared.sizes.TheConstants.{NEW_BUCKETS, TRIED_BUCKETS, SLOTS}
 use Rattle.raw_read.specs.Fields.{IsRec, Lacks}
-use Rattle.raw_read.specs.declared.fault.RawFault.{RawFault}
-use Rattle.raw_read.specs.declared.fault.RawFault.TheVariants.{Slot, Row}
-use Rattle.raw_read.specs.declared.row.RawRow.{RawRow}
-use Rattle.raw_read.specs.declared.row.RawTable.{RawTable}
-use Rattle.raw_read.specs.declared.row.RawTable.TheVariants.{New, Tried}
+use Rattle.raw_read.specs.declared.raw.RawFault.{RawFault}
+use Rattle.raw_read.specs.declared.raw.RawFault.TheVariants.{Slot, Row}
+use Rattle.raw_read.specs.declared.raw.RawRow.{RawRow}
+use Rattle.raw_read.specs.declared.raw.RawTable.{RawTable}
+use Rattle.raw_read.specs.declared.raw.RawTable.TheVariants.{New, Tried}
 
 -- a name and a value
 abbrev pub Member : Type 0

@@ -5,14 +5,11 @@
 //! and a text has one meaning.
 #![tactic(auto)]
 
-mod fault;
-mod fields;
+mod raw;
 mod read;
-mod row;
-mod slot;
-mod table;
+mod row_fields;
+mod rows;
 
-pub use fault::{Field, RawFault};
 pub use net_addr::Memory;
+pub use raw::{Field, Raw, RawFault, RawRow, RawRows, RawTable};
 pub use read::{MAX_TEXT, read_raw};
-pub use row::{Raw, RawRow, RawRows, RawTable};

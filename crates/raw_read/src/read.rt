@@ -5,12 +5,12 @@ ghost use Rattle.json.specs.Value.{members_view, value_view};
 ghost use Rattle.raw_read.specs.Inside.{member_view};
 ghost use Rattle.raw_read.specs.Raw.{HasRawFault, HasTables, IsJson, IsRaw, IsWithoutEnd};
 ghost use Rattle.raw_read.specs.Rows.{Member};
-ghost use Rattle.raw_read.specs.declared.fault.RawFault.{RawFault};
-ghost use Rattle.raw_read.specs.declared.fault.RawFault.TheVariants as faults;
+ghost use Rattle.raw_read.specs.declared.raw.RawFault.{RawFault};
+ghost use Rattle.raw_read.specs.declared.raw.RawFault.TheVariants as faults;
 ghost use Rattle.raw_read.specs.declared.read.TheConstants.{MAX_TEXT};
-ghost use Rattle.raw_read.specs.declared.row.Raw.{Raw};
+ghost use Rattle.raw_read.specs.declared.raw.Raw.{Raw};
 
-use crate::table::read_table;
+use crate::rows::read_table;
 use crate::{Raw, RawFault, RawRow, RawTable};
 use host_io::ListOf;
 use json::{Error, Scratch, Value};

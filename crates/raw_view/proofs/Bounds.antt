@@ -9,10 +9,10 @@ use Rattle.peer_rec.specs.Rec.{is_tried}
 use Rattle.peer_rec.specs.declared.rec.Rec.{Rec}
 use Rattle.raw_read.specs.Raw.{IsRaw}
 use Rattle.raw_read.specs.Rows.{AreRows, IsRow, Member, buckets_of, slot_number}
-use Rattle.raw_read.specs.declared.row.Raw.{Raw}
-use Rattle.raw_read.specs.declared.row.RawRow.{RawRow}
-use Rattle.raw_read.specs.declared.row.RawTable.{RawTable}
-use Rattle.raw_read.specs.declared.row.RawTable.TheVariants.{New, Tried}
+use Rattle.raw_read.specs.declared.raw.Raw.{Raw}
+use Rattle.raw_read.specs.declared.raw.RawRow.{RawRow}
+use Rattle.raw_read.specs.declared.raw.RawTable.{RawTable}
+use Rattle.raw_read.specs.declared.raw.RawTable.TheVariants.{New, Tried}
 use Rattle.raw_view.specs.Inside.{AllAre, AreIn, AreRowsIn, AreTables}
 use Rattle.raw_view.specs.Listed.{RawTables, new_recs, peers_of, rec_of, slots_of, tables_of, tried_recs, with_row}
 

@@ -6,8 +6,8 @@ use Rattle.std.proofs.lemmas.Grind.{get_or-set_at}
 use Rattle.std.proofs.lemmas.List.{get_or-set_other, length-replicate, length-set}
 use Rattle.peer_rec.specs.declared.rec.Rec.{Rec}
 use Rattle.raw_read.specs.Rows.{AreRows, Member, buckets_of, slot_number}
-use Rattle.raw_read.specs.declared.row.RawRow.{RawRow}
-use Rattle.raw_read.specs.declared.row.RawTable.{RawTable}
+use Rattle.raw_read.specs.declared.raw.RawRow.{RawRow}
+use Rattle.raw_read.specs.declared.raw.RawTable.{RawTable}
 use Rattle.raw_view.specs.Listed.{rec_of, row_in, slot_in, slots_of, with_slot}
 use Rattle.raw_view.proofs.Bounds.{in_table}
 

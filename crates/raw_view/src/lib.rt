@@ -8,12 +8,10 @@
 //! (`slots_are_named`).
 #![tactic(auto)]
 
-mod law;
 mod raw_tables;
 mod records;
 mod slots;
 mod view;
 
-pub use law::slots_are_named;
 pub use net_addr::Memory;
-pub use view::{RawView, read_view};
+pub use view::{RawView, read_view, slots_are_named};

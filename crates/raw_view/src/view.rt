@@ -1,8 +1,12 @@
-ghost use Rattle.std.specs.Prelude.{◌≡◌, ◌≢◌, IfOk, IfErr};
+ghost use Rattle.std.specs.Prelude.{◌≡◌, ◌≢◌, IfOk, IfErr, ◌<◌, ℕ, List, option_map};
 ghost use Rattle.raw_read.specs.Raw.{HasRawFault, IsRaw};
-ghost use Rattle.raw_read.specs.declared.fault.RawFault.TheVariants as faults;
-ghost use Rattle.raw_read.specs.declared.row.Raw.{Raw};
-ghost use Rattle.raw_view.specs.Listed.{tables_of, view_by};
+ghost use Rattle.raw_read.specs.declared.raw.RawFault.TheVariants as faults;
+ghost use Rattle.raw_read.specs.declared.raw.Raw.{Raw};
+ghost use Rattle.raw_view.specs.Listed.{tables_of, view_by, rec_of, row_in, slot_in, slots_of};
+ghost use Rattle.raw_read.specs.Rows.{AreRows, Member, buckets_of, slot_number};
+ghost use Rattle.raw_read.specs.declared.raw.RawRow.{RawRow};
+ghost use Rattle.raw_read.specs.declared.raw.RawTable.{RawTable};
+ghost use Rattle.slot_grid.specs.declared.sizes.TheConstants.{SLOTS};
 
 use crate::Memory;
 use crate::raw_tables::RawTables;
@@ -78,3 +82,10 @@ impl<'a> TableView for RawView<'a> {
         self.tables.sizes()
     }
 }
+
+/// A slot of a table of a listing has the record of the row that names it, and none if no row does.
+pub fn slots_are_named()
+    ensures { (table : RawTable) (ms : List Member) (rows : List RawRow) (bucket position : ℕ) →
+        AreRows table 0 ms rows → slot_in (slots_of table rows) bucket position
+        ≡ option_map (rec_of table) (row_in rows (slot_number bucket position)) }
+{}

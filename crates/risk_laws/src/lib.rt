@@ -2,14 +2,8 @@
 //! exactly, and bounds in integers. There is no program here, only definitions and laws.
 #![tactic(auto)]
 
-mod bounds;
-mod kinds;
-mod picks;
-mod risks;
-mod words;
+mod laws;
 
-pub use bounds::shares_are_enclosed;
-pub use kinds::kinds_are_enough;
-pub use picks::picks_are_enclosed;
-pub use risks::risks_are_bounded;
-pub use words::lists_are_counted;
+pub use laws::{
+    kinds_are_enough, lists_are_counted, picks_are_enclosed, risks_are_bounded, shares_are_enclosed,
+};

@@ -17,7 +17,7 @@ abbrev pub wanted_in : State → Bool → ℕ
 wanted_in st true = wanted_new st all
 wanted_in st false = wanted_tried st all
 
--- a share in parts of a million, rounded up
+-- a share of the whole in parts of a million, rounded up; more than the whole counts as the whole
 abbrev pub millionths : ℕ → ℕ → ℕ
 millionths share whole = rounded_up (min share whole * 10 ^ 6) whole
 
@@ -25,7 +25,7 @@ millionths share whole = rounded_up (min share whole * 10 ^ 6) whole
 unfoldable pub bound_in : State → Bool → ℕ → (Peer → Bool) → ℕ
 bound_in st in_new now theirs = bound_of st in_new all now theirs (2 ^ 64) AHEAD
 
--- the same, where without records none do
+-- the same, but at most all 2^64, and none if no record of the table is wanted
 abbrev pub share_for : State → Bool → ℕ → (Peer → Bool) → ℕ
 share_for st in_new now theirs =
     if wanted_in st in_new == 0 then 0 else min (bound_in st in_new now theirs) (2 ^ 64)

@@ -28,7 +28,8 @@ pub struct Parts {
     pub tried: u32,
 }
 
-/// Returns a share of `whole` in parts of a million, rounded up.
+/// Returns a share of `whole` in parts of a million, rounded up. A share above `whole` counts as
+/// `whole`.
 pub fn millionths(share: u128, whole: u128) -> u32
     requires some { 0 < whole }
     requires few { whole ≤ 2 ^ 65 }

@@ -14,7 +14,7 @@ use Rattle.table_groups.specs.Slots.{is_of, new_buckets, new_slots, tried_slots}
 use Rattle.table_groups.specs.Sources.{bucket_groups, slot_groups, source_groups}
 use Rattle.table_groups.specs.Tally.{groups_of, noted, once, value_in, with_group}
 use Rattle.table_groups.specs.Visits.{AreFewSlots, in_bucket, no_slots, slots_before, visits_of, with_slot}
-use Rattle.table_groups.specs.declared.slot_numbers.SlotNumbers.{SlotNumbers}
+use Rattle.table_groups.specs.declared.group_slots.SlotNumbers.{SlotNumbers}
 use Rattle.table_groups.proofs.Once.{same-back}
 use Rattle.table_groups.proofs.Values.{all-written, groups-are}
 use Rattle.table_groups.proofs.Visits.{after-tried, buckets-are, count-cons, count-flat, few-slots, none-tried, one_if, slots-are, visit-groups}

@@ -9,10 +9,10 @@ use Rattle.table_groups.specs.Inside.{all_by, counted_in, counted_source_in, rec
 use Rattle.table_groups.specs.Order.{in_order}
 use Rattle.table_groups.specs.Sources.{counted_source, slot_groups, source_of, sources_of}
 use Rattle.table_groups.specs.Tally.{by_bytes, groups_of, once}
-use Rattle.table_groups.specs.declared.order.Counted.{Counted}
-use Rattle.table_groups.specs.declared.record_numbers.RecordNumbers.{RecordNumbers}
-use Rattle.table_groups.specs.declared.row.Row.{Row}
-use Rattle.table_groups.specs.declared.slot_numbers.SlotNumbers.{SlotNumbers}
+use Rattle.table_groups.specs.declared.ranked_groups.Counted.{Counted}
+use Rattle.table_groups.specs.declared.group_records.RecordNumbers.{RecordNumbers}
+use Rattle.table_groups.specs.declared.ranked_groups.Row.{Row}
+use Rattle.table_groups.specs.declared.group_slots.SlotNumbers.{SlotNumbers}
 use Rattle.table_groups.specs.declared.sources.Source.{Source}
 use Rattle.table_groups.specs.View.{View}
 

@@ -11,7 +11,7 @@ use Rattle.placing.specs.Places.{Places}
 use Rattle.table_groups.specs.Groups.{counted_address, counted_group, counts_for}
 use Rattle.table_groups.specs.Inside.{AreFewRecords, first_or, no_records, record_visits, records_by, with_record}
 use Rattle.table_groups.specs.Tally.{groups_of, noted, once, value_in}
-use Rattle.table_groups.specs.declared.record_numbers.RecordNumbers.{RecordNumbers}
+use Rattle.table_groups.specs.declared.group_records.RecordNumbers.{RecordNumbers}
 use Rattle.table_groups.proofs.Values.{after_visit, groups-are, values-are, visited}
 use Rattle.table_groups.proofs.Visits.{count-cons, one_if}
 

@@ -14,7 +14,7 @@ use Rattle.std.proofs.lemmas.Cmp.{back_total, nat_cmp_total, nat_list_cmp_total,
 use Rattle.std.proofs.lemmas.List.Sums.{sum_by-cons}
 use Rattle.std.proofs.lemmas.List.Sorted.{ranks_by, sorted_far, sum_by-IsPermutation}
 use Rattle.table_groups.specs.Order.{comes_before, in_order, placed, rank_cmp}
-use Rattle.table_groups.specs.declared.order.Counted.{Counted}
+use Rattle.table_groups.specs.declared.ranked_groups.Counted.{Counted}
 
 -- ---- the comparison
 

@@ -7,7 +7,7 @@ use Rattle.std.proofs.lemmas.List.{map-append}
 use Rattle.std.proofs.lemmas.List.Sums.{fold-append, sum_by-append, sum_by-cons}
 use Rattle.table_groups.specs.Tally.{noted, tally_of, value_in}
 use Rattle.table_groups.specs.Visits.{AreFewSlots, in_bucket, is_last, no_slots, visits_of, with_slot, with_tried}
-use Rattle.table_groups.specs.declared.slot_numbers.SlotNumbers.{SlotNumbers}
+use Rattle.table_groups.specs.declared.group_slots.SlotNumbers.{SlotNumbers}
 use Rattle.table_groups.proofs.Values.{after_visit, folded, values-are, visited}
 
 abbrev pub one_if : Bool → ℕ

@@ -8,9 +8,9 @@ use Rattle.placing.specs.Places.{Places, group}
 use Rattle.table_groups.specs.Order.{in_order}
 use Rattle.table_groups.specs.Slots.{is_of, new_buckets, new_slots}
 use Rattle.table_groups.specs.Tally.{once}
-use Rattle.table_groups.specs.declared.order.Counted.{Counted}
-use Rattle.table_groups.specs.declared.row.Numbers.{Numbers}
-use Rattle.table_groups.specs.declared.row.Row.{Row}
+use Rattle.table_groups.specs.declared.ranked_groups.Counted.{Counted}
+use Rattle.table_groups.specs.declared.ranked_groups.Numbers.{Numbers}
+use Rattle.table_groups.specs.declared.ranked_groups.Row.{Row}
 use Rattle.table_groups.specs.View.{View}
 
 -- WHAT COUNTS

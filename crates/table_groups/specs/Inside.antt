@@ -9,10 +9,10 @@ use Rattle.table_groups.specs.Groups.{counted_address, counted_group}
 use Rattle.table_groups.specs.Sources.{bucket_groups}
 use Rattle.table_groups.specs.Tally.{noted, tally_of, value_in}
 use Rattle.table_groups.specs.Visits.{no_slots, visits_of, with_slot}
-use Rattle.table_groups.specs.declared.order.Counted.{Counted}
-use Rattle.table_groups.specs.declared.record_numbers.RecordNumbers.{RecordNumbers}
-use Rattle.table_groups.specs.declared.row.Row.{Row}
-use Rattle.table_groups.specs.declared.slot_numbers.SlotNumbers.{SlotNumbers}
+use Rattle.table_groups.specs.declared.ranked_groups.Counted.{Counted}
+use Rattle.table_groups.specs.declared.group_records.RecordNumbers.{RecordNumbers}
+use Rattle.table_groups.specs.declared.ranked_groups.Row.{Row}
+use Rattle.table_groups.specs.declared.group_slots.SlotNumbers.{SlotNumbers}
 use Rattle.table_groups.specs.declared.sources.Source.{Source}
 use Rattle.table_groups.specs.View.{View}
 

@@ -3,7 +3,7 @@ use Rattle.std.specs.Prelude.{List, [], ◌∷◌, Bool, fold, if◌then◌else�
 use Rattle.std.specs.Cmp.Lexicographic.{slice_cmp}
 use Rattle.std.specs.Ordering.{is_lt, nat_cmp, ordering_then}
 use Rattle.std.specs.declared.cmp.Ordering.{Ordering}
-use Rattle.table_groups.specs.declared.order.Counted.{Counted}
+use Rattle.table_groups.specs.declared.ranked_groups.Counted.{Counted}
 
 -- the one with more slots comes first, and of two with as many the one with the lower bytes
 abbrev pub rank_cmp : Counted → Counted → Ordering

@@ -7,7 +7,7 @@ use Rattle.slot_grid.specs.declared.sizes.TheConstants.{NEW_BUCKETS, SLOTS, TRIE
 use Rattle.table_groups.specs.Order.{in_order}
 use Rattle.table_groups.specs.Slots.{all_slots, is_of, new_buckets, new_slots, tried_slots}
 use Rattle.table_groups.specs.Tally.{once}
-use Rattle.table_groups.specs.declared.order.Counted.{Counted}
+use Rattle.table_groups.specs.declared.ranked_groups.Counted.{Counted}
 use Rattle.table_groups.specs.declared.sources.Source.{Source}
 use Rattle.table_groups.specs.View.{View, occupant_at}
 

@@ -3,7 +3,7 @@ use Rattle.std.specs.Prelude.{ℕ, ◌+◌, ◌*◌, ◌≤◌, ◌==◌, Bool, 
 use Rattle.std.specs.List.{flat_map, range_with_len}
 use Rattle.slot_grid.specs.declared.sizes.TheConstants.{NEW_SLOTS, SLOTS}
 use Rattle.table_groups.specs.Tally.{value_in}
-use Rattle.table_groups.specs.declared.slot_numbers.SlotNumbers.{SlotNumbers}
+use Rattle.table_groups.specs.declared.group_slots.SlotNumbers.{SlotNumbers}
 
 abbrev pub no_slots : SlotNumbers
 no_slots = record { slots = 0; buckets = 0; tried = 0; last = None }

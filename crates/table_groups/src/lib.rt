@@ -10,28 +10,18 @@
 //! (`names_are_plain`).
 #![tactic(auto)]
 
-mod law;
-mod lent;
-mod names;
-mod order;
-mod record_numbers;
-mod records;
-mod row;
-mod rows;
-mod slot_numbers;
-mod slots;
+mod group_names;
+mod group_records;
+mod group_slots;
+mod ranked_groups;
 mod sources;
 mod table_view;
 mod tally;
 
-pub use law::names_are_plain;
-pub use lent::Lent;
-pub use names::{name_of, put_numbered};
+pub use group_names::{name_of, names_are_plain, put_numbered};
+pub use group_slots::{bucket_count, new_slots};
 pub use net_addr::Memory;
-pub use order::{Counted, Group, copy_of};
-pub use row::{Numbers, Row};
-pub use rows::rows_of;
-pub use slots::{bucket_count, new_slots};
+pub use ranked_groups::{Counted, Group, Numbers, Row, copy_of, rows_of};
 pub use sources::{Source, sources_of};
 pub use table_view::TableView;
-pub use tally::{Tally, put_value, value_of};
+pub use tally::{Lent, Tally, put_value, value_of};

@@ -4,9 +4,8 @@ ghost use Rattle.table_groups.specs.Inside.{counted_source_in, source_in};
 ghost use Rattle.table_groups.specs.Sources.{sources_of};
 ghost use Rattle.table_groups.specs.Tally.{by_bytes};
 
-use crate::order::{Counted, copy_of, put_in_order};
-use crate::slot_numbers::SlotNumbers;
-use crate::slots::{note_table, tally_slots};
+use crate::group_slots::{SlotNumbers, note_table, tally_slots};
+use crate::ranked_groups::{Counted, copy_of, put_in_order};
 use crate::tally::{Tally, value_of};
 use crate::{Group, Memory, TableView};
 use std::alloc::Global;

@@ -1,4 +1,4 @@
-use Rattle.ban_list.specs.declared.rule.BanRule.TheVariants.{Labels}
+use Rattle.ban_list.specs.declared.ban.BanRule.TheVariants.{Labels}
 use Rattle.addrman_run.proofs.ReadingSets.{proper_read, sets_read_by}
 use Rattle.addrman_run.proofs.risk_lines.read_sets.Goals as goal
 

@@ -3,7 +3,7 @@ use Rattle.serde_json.specs.Data.{array, object, put}
 use Rattle.serde_json.specs.View.{items_of, members_view, view}
 use Rattle.serde_json.proofs.Views.{view-Array, view-Object}
 use Rattle.ban_list.specs.BanFile.{ban_data_by}
-use Rattle.ban_list.specs.declared.rule.BanRule.TheVariants.{Names}
+use Rattle.ban_list.specs.declared.ban.BanRule.TheVariants.{Names}
 use Rattle.ban_list.proofs.FileLaws.{map-append}
 use Rattle.ban_list.proofs.write_by_name.file_with.Goals as goal
 

@@ -1,7 +1,7 @@
 use Rattle.std.proofs.Common.{map, take}
 use Rattle.serde_json.specs.View.{view}
 use Rattle.ban_list.specs.NewFile.{AreOthers}
-use Rattle.ban_list.specs.declared.rule.BanRule.TheVariants.{Names}
+use Rattle.ban_list.specs.declared.ban.BanRule.TheVariants.{Names}
 use Rattle.ban_list.proofs.write_by_name.others_of.Given as goal
 
 -- the others of the elements before this one

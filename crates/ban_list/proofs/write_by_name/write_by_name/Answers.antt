@@ -4,7 +4,7 @@ use Rattle.serde_json.specs.Data.{array, depth, object, put}
 use Rattle.serde_json.specs.Read.{max_depth, read}
 use Rattle.serde_json.specs.View.{items_of, members_view, view}
 use Rattle.ban_list.specs.BanFile.{ban_data_by}
-use Rattle.ban_list.specs.declared.rule.BanRule.TheVariants.{Names}
+use Rattle.ban_list.specs.declared.ban.BanRule.TheVariants.{Names}
 use Rattle.ban_list.proofs.NewLaws.{file_depth}
 use Rattle.ban_list.proofs.write_by_name.write_by_name.Goals as goal
 

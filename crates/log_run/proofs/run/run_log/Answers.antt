@@ -4,8 +4,8 @@ use Rattle.host_io.specs.Writing.{Appended, AppendedPart}
 use Rattle.log_run.specs.Reading.{IsLine, Reading}
 use Rattle.log_run.specs.Waiting.{Batch, StopsAt}
 use Rattle.log_run.specs.Worlds.{WorldStops}
-use Rattle.log_run.specs.declared.end.LogFault.{LogFault}
-use Rattle.log_run.specs.declared.end.LogFault.TheVariants as fault
+use Rattle.log_run.specs.declared.log_reader.LogFault.{LogFault}
+use Rattle.log_run.specs.declared.log_reader.LogFault.TheVariants as fault
 use Rattle.log_run.specs.declared.line_steps.Stop.{Stop}
 use Rattle.log_run.specs.declared.line_steps.Stop.TheVariants as stop
 use Rattle.log_run.specs.declared.sizes.TheConstants.{MAX_LOG}

@@ -1,5 +1,5 @@
 use Rattle.std.proofs.Common.{◌++◌, ◌∙◌, ap}
-use Rattle.table_groups.specs.declared.row.Row.{Row}
+use Rattle.table_groups.specs.declared.ranked_groups.Row.{Row}
 use Rattle.node_json.specs.Groups.{row_items}
 use Rattle.node_json.specs.Inside.{items_tokens_of}
 use Rattle.node_json.proofs.Listed.{row_step}

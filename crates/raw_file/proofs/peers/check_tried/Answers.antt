@@ -1,5 +1,5 @@
 use Rattle.std.proofs.Common.{◌+◌, ◌∙◌, ap, drop, refl, rules, sym}
-use Rattle.raw_read.specs.declared.row.RawTable.TheVariants.{Tried}
+use Rattle.raw_read.specs.declared.raw.RawTable.TheVariants.{Tried}
 use Rattle.raw_file.specs.Listing.{again_at, first_twice}
 use Rattle.raw_file.proofs.Agains.{found_twice, none_twice, not_twice}
 use Rattle.raw_file.proofs.peers.check_tried.Goals as goal

@@ -1,6 +1,6 @@
 use Rattle.std.proofs.Common.{◌∙◌, ◌++◌, ◌∷◌, [], ap, refl, rules, sym, take}
 use Rattle.std.proofs.lemmas.List.{take_all}
-use Rattle.raw_read.specs.declared.row.RawTable.TheVariants.{New}
+use Rattle.raw_read.specs.declared.raw.RawTable.TheVariants.{New}
 use Rattle.raw_file.specs.Listing.{again_at, firsts, peers_of, recs_of, spot_of, with_rec}
 use Rattle.raw_file.proofs.Agains.{again_is, firsts_more, found_again, map_more, no_again, none_left}
 use Rattle.raw_file.proofs.peers.read_new.Goals as goal

@@ -2,7 +2,7 @@ use Rattle.std.proofs.Common.{map, sym, subst, inl, inr}
 use Rattle.json.specs.Value.{value_view}
 use Rattle.raw_read.specs.Inside.{member_view}
 use Rattle.raw_read.specs.Rows.{AreRows}
-use Rattle.raw_read.specs.declared.row.RawTable.TheVariants.{New, Tried}
+use Rattle.raw_read.specs.declared.raw.RawTable.TheVariants.{New, Tried}
 use Rattle.raw_read.proofs.RawLaws.{both, member_cause}
 use Rattle.raw_read.proofs.read.read_tables.Goals as goal
 

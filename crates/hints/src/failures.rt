@@ -1,0 +1,52 @@
+use crate::files::Paths;
+use host_io::{Failure, Tried};
+use std::alloc::{AllocError, Global};
+use std::io;
+use std::io::ErrorKind;
+
+/// Says which call on a file or on the folder failed, and why.
+pub fn failure_hint(
+    alloc: Global,
+    failure: &Failure,
+    is_in_use: bool,
+    paths: &Paths<'_>,
+) -> Result<String, AllocError> {
+    if is_in_use {
+        return String::from_str(
+            alloc,
+            "the folder is in use: another program is saving there",
+        );
+    }
+    let name = match failure.name {
+        Some(name) => paths.text_of(name),
+        None => "the folder",
+    };
+    if failure.error.kind() == ErrorKind::InvalidInput {
+        return format!(in alloc; "{name} is no regular file");
+    }
+    format!(in alloc;
+        "{name} cannot be {}: {}",
+        past_of(failure.tried),
+        failure.error
+    )
+}
+
+/// Returns the participle of what was tried.
+fn past_of(tried: Tried) -> &'static str {
+    match tried {
+        Tried::Lock => "locked",
+        Tried::Read => "read",
+        Tried::Create => "created",
+        Tried::Write => "written",
+        Tried::Sync => "synced",
+        Tried::Rename => "renamed",
+    }
+}
+
+/// Says why a standard stream failed: `input` or `output`.
+pub fn stream_hint(alloc: Global, stream: &str, error: io::Error) -> Result<String, AllocError> {
+    match error.kind() {
+        ErrorKind::IsADirectory => { format!(in alloc; "standard {stream} is a folder, or closed") }
+        _ => format!(in alloc; "standard {stream}: {error}"),
+    }
+}

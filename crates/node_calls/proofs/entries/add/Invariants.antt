@@ -1,5 +1,0 @@
-use Rattle.node_calls.proofs.entries.add.Given as goal
-
--- the ledger that no other token is of
-abbrev pub ghosts-count_add : goal.ghosts-count_add
-ghosts-count_add g a = record { name = a.blank.name; parts = a.blank.parts }

@@ -1,0 +1,136 @@
+ghost use Rattle.std.specs.Prelude.{◌≡◌, ℕ, ◌+◌, ◌*◌, ◌^◌, ◌<◌, List, Bool, true, false, ◌≤◌, not, ◌||◌, ◌==◌};
+ghost use Rattle.net_addr.specs.declared.peer.Peer.{Peer};
+ghost use Rattle.slot_grid.specs.declared.sizes.TheConstants.{SLOTS};
+ghost use Rattle.table_laws.specs.Chances.{words_for};
+ghost use Rattle.table_laws.specs.Searches.{idle_rounds, refusing_rounds, all_lists, ending_at};
+ghost use Rattle.table_machine.specs.Picks.{bucket_count, first_factor, next_factor, wanted_new, wanted_tried};
+ghost use Rattle.table_machine.specs.State.{State};
+ghost use Rattle.risk_laws.specs.Lists.{searching_lists, selecting_lists, word_lists};
+ghost use Rattle.peer_rec.specs.declared.rec.Rec.{Rec};
+ghost use Rattle.table_machine.specs.Sound.{IsSound};
+ghost use Rattle.risk_laws.specs.Enclosures.{most_of};
+ghost use Rattle.risk_laws.specs.Classes.{kinds_of, bound_of};
+ghost use Rattle.risk_sum.specs.Kinds.{AreKinds, most_by, refused_by, starts_of, taken_by};
+
+/// Of the lists of n random words of 64 bits, so many end a search of one table at a peer of a set.
+/// With fewer than three words none do. Of the rounds by the first three words, some select a peer
+/// of the set, whatever the other words are. Some refuse their candidate; then the others go on
+/// with the factor grown. Those that have no candidate do not use up the third word. A pick from
+/// both tables is a search of one or the other, by its first word.
+pub fn lists_are_counted()
+    ensures few { (st : State) (in_new : Bool) (nets : List ℕ) (now factor n : ℕ)
+        (theirs : Peer → Bool) → n < 3 → searching_lists st in_new nets now theirs factor n ≡ 0 }
+    ensures more { (st : State) (in_new : Bool) (nets : List ℕ) (now factor n : ℕ)
+        (theirs : Peer → Bool) →
+        searching_lists st in_new nets now theirs factor (n + 3)
+        * (bucket_count in_new * (SLOTS * 2 ^ 30))
+        ≡ 2 ^ 64 * 2 ^ 64
+        * (2 ^ 64 * (words_for st in_new nets now factor (λ r. theirs r.peer) * word_lists n
+        + refusing_rounds st in_new nets now factor
+        * searching_lists st in_new nets now theirs (next_factor factor) n)
+        + idle_rounds st in_new nets * searching_lists st in_new nets now theirs factor (n + 1)) }
+    ensures either { (st : State) (nets : List ℕ) (now n : ℕ) (theirs : Peer → Bool) →
+        0 < wanted_new st nets → 0 < wanted_tried st nets →
+        selecting_lists st false nets now theirs (n + 1)
+        ≡ 2 ^ 63 * (searching_lists st true nets now theirs first_factor n
+        + searching_lists st false nets now theirs first_factor n) }
+    ensures all { (n : ℕ) → word_lists n ≡ (2 ^ 64) ^ n }
+{}
+
+/// Of the lists of n rounds, for each n, at most this part ends a search of one table at a record
+/// that passes the test. At least this part does: that of the searches that end at some record,
+/// without what ends at most at those that fail it. Of the rounds `busy` have a candidate.
+pub fn shares_are_enclosed()
+    ensures most { (st : State) (in_new : Bool) (nets : List ℕ)
+        (now unit busy ahead n factor : ℕ) (test : Rec → Bool) → IsSound st → 0 < busy →
+        busy + idle_rounds st in_new nets ≡ bucket_count in_new * (SLOTS * 2 ^ 30) →
+        ending_at st in_new nets now factor test n * unit
+        ≤ all_lists in_new n * most_of st in_new nets now test busy unit ahead factor }
+    ensures least { (st : State) (in_new : Bool) (nets : List ℕ)
+        (now unit busy ahead n factor : ℕ) (test : Rec → Bool) → IsSound st → 0 < busy →
+        busy + idle_rounds st in_new nets ≡ bucket_count in_new * (SLOTS * 2 ^ 30) →
+        ending_at st in_new nets now factor (λ r. true) n * unit
+        ≤ ending_at st in_new nets now factor test n * unit
+        + all_lists in_new n
+        * most_of st in_new nets now (λ r. not (test r)) busy unit ahead factor }
+{}
+
+/// Of the lists of n random words of 64 bits, for each n, at most this part selects a peer of a
+/// set: in a search of one table, and in a pick from both, from the new table only, and from the
+/// tried table alone. Of the rounds of a table, `busy`, `new` or `tried` have a candidate.
+pub fn picks_are_enclosed()
+    ensures search { (st : State) (in_new : Bool) (nets : List ℕ)
+        (now unit busy ahead n factor : ℕ) (theirs : Peer → Bool) → IsSound st → 0 < busy →
+        busy + idle_rounds st in_new nets ≡ bucket_count in_new * (SLOTS * 2 ^ 30) →
+        searching_lists st in_new nets now theirs factor n * unit
+        ≤ word_lists n * most_of st in_new nets now (λ r. theirs r.peer) busy unit ahead factor }
+    ensures either { (st : State) (nets : List ℕ) (now unit new tried ahead n : ℕ)
+        (theirs : Peer → Bool) → IsSound st → 0 < new → 0 < tried →
+        new + idle_rounds st true nets ≡ bucket_count true * (SLOTS * 2 ^ 30) →
+        tried + idle_rounds st false nets ≡ bucket_count false * (SLOTS * 2 ^ 30) →
+        0 < wanted_new st nets → 0 < wanted_tried st nets →
+        selecting_lists st false nets now theirs n * (2 * unit)
+        ≤ word_lists n
+        * (most_of st true nets now (λ r. theirs r.peer) new unit ahead first_factor
+        + most_of st false nets now (λ r. theirs r.peer) tried unit ahead first_factor) }
+    ensures new { (st : State) (new_only : Bool) (nets : List ℕ) (now unit new ahead n : ℕ)
+        (theirs : Peer → Bool) → IsSound st → 0 < new →
+        new + idle_rounds st true nets ≡ bucket_count true * (SLOTS * 2 ^ 30) →
+        0 < wanted_new st nets → (new_only || wanted_tried st nets == 0) ≡ true →
+        selecting_lists st new_only nets now theirs n * unit
+        ≤ word_lists n
+        * most_of st true nets now (λ r. theirs r.peer) new unit ahead first_factor }
+    ensures tried { (st : State) (nets : List ℕ) (now unit tried ahead n : ℕ)
+        (theirs : Peer → Bool) → IsSound st → 0 < tried →
+        tried + idle_rounds st false nets ≡ bucket_count false * (SLOTS * 2 ^ 30) →
+        wanted_new st nets ≡ 0 → 0 < wanted_tried st nets →
+        selecting_lists st false nets now theirs n * unit
+        ≤ word_lists n
+        * most_of st false nets now (λ r. theirs r.peer) tried unit ahead first_factor }
+{}
+
+/// The rounds of a table need not be gone through: how many starts lead to records of each chance
+/// tells how many rounds select records that pass a test, how many refuse their candidate, and how
+/// many have one. So the bound of the rounds is that of these kinds.
+pub fn kinds_are_enough()
+    ensures taken { (st : State) (in_new : Bool) (nets : List ℕ) (now factor : ℕ)
+        (test : Rec → Bool) → IsSound st →
+        words_for st in_new nets now factor test
+        ≡ taken_by (kinds_of st in_new nets now test) factor }
+    ensures refused { (st : State) (in_new : Bool) (nets : List ℕ) (now factor : ℕ)
+        (test : Rec → Bool) → IsSound st →
+        refusing_rounds st in_new nets now factor
+        ≡ refused_by (kinds_of st in_new nets now test) factor }
+    ensures whole { (st : State) (in_new : Bool) (nets : List ℕ) (now : ℕ)
+        (test : Rec → Bool) → IsSound st →
+        starts_of (kinds_of st in_new nets now test) * 2 ^ 30 + idle_rounds st in_new nets
+        ≡ bucket_count in_new * (SLOTS * 2 ^ 30) }
+    ensures bound { (st : State) (in_new : Bool) (nets : List ℕ)
+        (now busy left ahead factor : ℕ) (test : Rec → Bool) → IsSound st →
+        most_of st in_new nets now test busy left ahead factor
+        ≡ most_by (kinds_of st in_new nets now test) busy left ahead factor }
+    ensures new { (st : State) (nets : List ℕ) (now : ℕ) (test : Rec → Bool) → IsSound st →
+        0 < wanted_new st nets → AreKinds (kinds_of st true nets now test) }
+    ensures tried { (st : State) (nets : List ℕ) (now : ℕ) (test : Rec → Bool) → IsSound st →
+        0 < wanted_tried st nets → AreKinds (kinds_of st false nets now test) }
+{}
+
+/// Of the (2^64)^n lists of n random words, for every n, `select` returns a peer of a set for at
+/// most this part, computed from how many starts lead to records of each chance: half of the bound
+/// of each table if both have candidates, else the bound of the one that is searched.
+pub fn risks_are_bounded()
+    ensures either { (st : State) (nets : List ℕ) (now unit ahead n : ℕ) (theirs : Peer → Bool) →
+        IsSound st → 0 < wanted_new st nets → 0 < wanted_tried st nets →
+        selecting_lists st false nets now theirs n * (2 * unit)
+        ≤ (2 ^ 64) ^ n * (bound_of st true nets now theirs unit ahead
+        + bound_of st false nets now theirs unit ahead) }
+    ensures new { (st : State) (new_only : Bool) (nets : List ℕ) (now unit ahead n : ℕ)
+        (theirs : Peer → Bool) → IsSound st → 0 < wanted_new st nets →
+        (new_only || wanted_tried st nets == 0) ≡ true →
+        selecting_lists st new_only nets now theirs n * unit
+        ≤ (2 ^ 64) ^ n * bound_of st true nets now theirs unit ahead }
+    ensures tried { (st : State) (nets : List ℕ) (now unit ahead n : ℕ) (theirs : Peer → Bool) →
+        IsSound st → wanted_new st nets ≡ 0 → 0 < wanted_tried st nets →
+        selecting_lists st false nets now theirs n * unit
+        ≤ (2 ^ 64) ^ n * bound_of st false nets now theirs unit ahead }
+{}
