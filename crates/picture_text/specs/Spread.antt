@@ -1,5 +1,5 @@
 -- Which groups reach more buckets of the new table than an honest one of their size would.
-use Rattle.std.specs.Prelude.{ℕ, zero, suc, ◌+◌, ◌-◌, ◌*◌, ◌/◌, nat_lt, Bool, false, List, count_by, drop, length}
+use Rattle.std.specs.Prelude.{ℕ, zero, suc, ◌+◌, ◌-◌, ◌*◌, ◌/◌, nat_lt, Bool, false, List, count_by, drop}
 use Rattle.picture_text.specs.declared.by.By.{By}
 use Rattle.picture_text.specs.declared.by.By.TheVariants.{Network, Source, Group, Age}
 use Rattle.table_groups.specs.declared.sources.Source.{Source as OneSource}

@@ -104,12 +104,7 @@ fn axes_text() -> &'static [u8]
 }
 
 /// Appends what a colour says, between two texts.
-fn put_meaning(
-    meaning: &[u8],
-    before: &[u8],
-    after: &[u8],
-    out: &mut Vec<u8>,
-) -> Result<(), Memory>
+fn put_meaning(meaning: &[u8], before: &[u8], after: &[u8], out: &mut Vec<u8>) -> Result<(), Memory>
     ensures { OnOk result (out.new.items ≡ out.old.items
         ++ (before.now ++ (dots ++ (meaning.now ++ after.now)))) }
 {
@@ -167,12 +162,7 @@ fn put_facts(facts: &[u8], out: &mut Vec<u8>) -> Result<(), Memory>
 /// Appends what comes before the titles of the maps: what a colour says, the title of the list, and
 /// which tables they are.
 #[tactic(auto, unfolding(crate::specs::By::head_with))]
-fn put_head(
-    meaning: &[u8],
-    title: &[u8],
-    facts: &[u8],
-    out: &mut Vec<u8>,
-) -> Result<(), Memory>
+fn put_head(meaning: &[u8], title: &[u8], facts: &[u8], out: &mut Vec<u8>) -> Result<(), Memory>
     ensures { OnOk result (out.new.items
         ≡ out.old.items ++ head_with meaning.now title.now facts.now) }
 {

@@ -49,7 +49,11 @@ fn put_group_row(source: &Source, name: &[u8], index: u8, out: &mut Vec<u8>) -> 
 
 /// Appends the rows of the listed groups.
 #[tactic(auto, unfolding(crate::specs::Picture::group_rows))]
-pub(crate) fn put_group_rows(listed: &[Source], names: &[Vec<u8>], out: &mut Vec<u8>) -> Result<(), Memory>
+pub(crate) fn put_group_rows(
+    listed: &[Source],
+    names: &[Vec<u8>],
+    out: &mut Vec<u8>,
+) -> Result<(), Memory>
     requires listed { length listed.now ≤ 6 }
     requires names { length listed.now ≤ length names.now }
     ensures { OnOk result (out.new.items ≡ out.old.items

@@ -1,4 +1,4 @@
-ghost use Rattle.std.specs.Prelude.{◌≡◌, ◌≤◌, ◌<◌, length};
+ghost use Rattle.std.specs.Prelude.{◌≡◌, ◌≤◌, ◌<◌, length, if◌then◌else◌};
 ghost use Rattle.picture_text.specs.Marks.{buckets_of, dots_of, group_mark, has_mark, in_bucket};
 ghost use Rattle.slot_grid.specs.declared.sizes.TheConstants.{ALL_SLOTS, NEW_BUCKETS};
 
@@ -51,12 +51,22 @@ fn in_bucket(marks: &[u8], bucket: u16) -> &[u8]
 fn has_mark(marks: &[u8], mark: u8) -> bool
     ensures { result ≡ has_mark marks.now mark }
 {
-    for next in marks {
-        if *next == mark {
+    let mut rest = marks;
+    while let [first, after @ ..] = rest {
+        if *first == mark {
             return true;
         }
+        rest = after;
     }
     false
+}
+
+/// Returns 1 if a slot has the mark, and 0 if none has.
+fn one_if_marked(marks: &[u8], mark: u8) -> u32
+    ensures is { result ≡ (if has_mark marks.now mark then 1 else 0) }
+    ensures few { result ≤ 1 }
+{
+    if has_mark(marks, mark) { 1 } else { 0 }
 }
 
 /// Returns how many buckets of the new table have a slot with the mark.
@@ -67,9 +77,7 @@ pub(crate) fn buckets_of(marks: &[u8], mark: u8) -> u32
 {
     let mut count = 0;
     for bucket in 0..NEW_BUCKETS {
-        if has_mark(in_bucket(marks, bucket), mark) {
-            count += 1;
-        }
+        count += one_if_marked(in_bucket(marks, bucket), mark);
     }
     count
 }

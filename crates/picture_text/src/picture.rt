@@ -165,7 +165,11 @@ fn put_body(
 
 /// Returns the names of the marks: those of the listed groups, and that of all others if there are
 /// some.
-pub(crate) fn names_of(alloc: Global, others: usize, names: Vec<Vec<u8>>) -> Result<Vec<Vec<u8>>, Memory>
+pub(crate) fn names_of(
+    alloc: Global,
+    others: usize,
+    names: Vec<Vec<u8>>,
+) -> Result<Vec<Vec<u8>>, Memory>
     requires { length names.items ≤ 6 }
     ensures names { IfOk result (λ all. map (λ v. v.items) all.items
         ≡ names_of others (map (λ v. v.items) names.items)) }

@@ -9,6 +9,7 @@ const PARTS: u64 = 65_536;
 
 /// Returns the mean number of buckets that are reached by slots of which each is in any of some
 /// buckets alike, in parts of a bucket.
+#[tactic(auto, using(crate::proofs::Reached::reached_none, crate::proofs::Reached::reached_more))]
 fn reached(buckets: u32, slots: u32) -> u64
     requires { 0 < buckets }
     ensures is { result ≡ reached buckets slots }
@@ -46,7 +47,11 @@ pub fn is_spread(by: By, source: &Source) -> bool
 pub fn unlisted_in(sources: &[Source]) -> &[Source]
     ensures { result.now ≡ unlisted_in sources.now }
 {
-    if 6 < sources.len() { &sources[6..] } else { &[] }
+    if 6 < sources.len() {
+        &sources[6..]
+    } else {
+        &[]
+    }
 }
 
 /// Returns how many groups that are not listed spread.
@@ -54,8 +59,9 @@ pub fn unlisted_in(sources: &[Source]) -> &[Source]
 pub fn spread_of(by: By, sources: &[Source]) -> usize
     ensures { result ≡ spread_of by sources.now }
 {
+    let unlisted = unlisted_in(sources);
     let mut count = 0;
-    for source in unlisted_in(sources) {
+    for source in unlisted {
         if is_spread(by, source) {
             count += 1;
         }

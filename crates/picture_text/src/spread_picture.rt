@@ -1,5 +1,5 @@
 ghost use Rattle.std.specs.Prelude.{◌≡◌, ◌≤◌, ◌++◌, length, map, IfOk, OnOk};
-ghost use Rattle.picture_text.specs.Notes.{honest_text, notes_by};
+ghost use Rattle.picture_text.specs.Notes.{first_note, honest_text, notes_by, second_note};
 ghost use Rattle.picture_text.specs.Picture.{listed_in, spread_body, spread_name, spread_picture};
 ghost use Rattle.slot_grid.specs.declared.sizes.TheConstants.{ALL_SLOTS};
 
@@ -26,22 +26,34 @@ fn honest_text(by: By) -> &'static [u8]
     }
 }
 
-/// Appends what is said of the groups that spread.
-#[tactic(auto, unfolding(crate::specs::Notes::notes_by))]
-fn put_notes(by: By, out: &mut Vec<u8>) -> Result<(), Memory>
-    ensures { OnOk result (out.new.items ≡ out.old.items ++ notes_by by) }
+/// Returns what is said first of the groups that spread.
+#[tactic(auto, unfolding(crate::specs::Notes::first_note))]
+fn first_note() -> &'static [u8]
+    ensures { result.now ≡ first_note }
 {
-    put_text(
-        b"<text x=\"694\" y=\"682\" class=\"k\">In more new buckets than as many slots taken at \
-        random</text>\n",
-        out,
-    )?;
+    b"<text x=\"694\" y=\"682\" class=\"k\">In more new buckets than as many slots taken at \
+        random</text>\n"
+}
+
+/// Appends what is said of them then.
+#[tactic(auto, unfolding(crate::specs::Notes::second_note))]
+fn put_second_note(by: By, out: &mut Vec<u8>) -> Result<(), Memory>
+    ensures { OnOk result (out.new.items ≡ out.old.items ++ second_note by) }
+{
     put_around(
         b"<text x=\"694\" y=\"698\" class=\"k\">",
         honest_text(by),
         b"</text>\n",
         out,
-    )?;
+    )
+}
+
+/// Appends what is said of the groups that spread.
+fn put_notes(by: By, out: &mut Vec<u8>) -> Result<(), Memory>
+    ensures { OnOk result (out.new.items ≡ out.old.items ++ notes_by by) }
+{
+    put_text(first_note(), out)?;
+    put_second_note(by, out)?;
     Ok(())
 }
 
