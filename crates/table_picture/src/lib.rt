@@ -5,10 +5,10 @@ mod classes;
 mod date;
 mod facts;
 mod marks;
+mod marks_by_rule;
 mod picture;
 mod recoloured;
 mod sets_picture;
-mod slots;
 
 pub use picture::{put_picture, put_picture_by};
 pub use picture_text::{By, Memory};

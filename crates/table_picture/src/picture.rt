@@ -8,7 +8,7 @@ use crate::classes::{name_by, newest_of};
 use crate::facts::facts_of;
 use crate::marks::marks_by;
 use crate::recoloured::{Recoloured, rec_in};
-use crate::slots::spread_marks;
+use crate::marks_by_rule::spread_marks;
 use peer_rec::Rec;
 use picture_text::{By, listed_in, put_spread_picture, spread_of};
 use placing::Placer;

@@ -4,7 +4,7 @@ ghost use Rattle.table_picture.specs.Picture.{picture_of_sets};
 
 use crate::Memory;
 use crate::facts::facts_of;
-use crate::slots::set_marks;
+use crate::marks_by_rule::set_marks;
 use picture_text::put_sets_picture;
 use risk_parts::{AddrSet, put_set};
 use std::alloc::Global;

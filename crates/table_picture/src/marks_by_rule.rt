@@ -30,8 +30,9 @@ fn spread_in<'a, H: BuildHasher>(
     ensures { IfOk result (λ tally. (g : List ℕ) → value_in 0 (by_bytes tally.entries) g
         ≡ spread_mark (spread_in by sources.now) g) }
 {
+    let unlisted = unlisted_in(sources);
     let mut spread = IndexMap::with_hasher(alloc, Lent::of(hasher));
-    for source in unlisted_in(sources) {
+    for source in unlisted {
         if is_spread(by, source) {
             put_value(&mut spread, copy_of(&source.group), 8)?;
         }
