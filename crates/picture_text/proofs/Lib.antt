@@ -1,3 +1,4 @@
 pub mod Rows
+pub mod Reached
 pub mod Texts
 pub mod Examples

@@ -21,26 +21,41 @@ list_title Source = codes "Source groups with the most slots"
 list_title Group = codes "Groups of peers with the most slots"
 list_title Age = codes "Ages with the most slots"
 
+-- the same where colours go by sets of addresses
+abbrev pub sets_meaning : List ℕ
+sets_meaning = codes "the first set in the list that has the peer."
+
+abbrev pub sets_title : List ℕ
+sets_title = codes "Sets of peers"
+
 -- how all pictures begin their description
 abbrev pub dots : List ℕ
 dots = codes "A square is a bucket, and a dot in it is an occupied slot. Its colour is "
 
 -- a description of the picture, for readers who cannot see it
-unfoldable pub description : By → List ℕ
-description by = codes "<desc>" ++ (dots ++ (colour_meaning by ++ codes "</desc>\n"))
+unfoldable pub description : List ℕ → List ℕ
+description meaning = codes "<desc>" ++ (dots ++ (meaning ++ codes "</desc>\n"))
 
--- on a dark ground if the reader prefers one: each colour by what its text ends with
+-- the colours of the marks, each by what its text ends with: on a light ground, and on a dark one
+-- if the reader prefers that
+abbrev pub light_styles : List ℕ
+light_styles =
+    codes "[fill$=e00]{fill:#652c01}[fill$=b2]{fill:#00396f}[fill$=e73]{fill:#49a97a}"
+    ++ (codes "[fill$=a7]{fill:#b61b50}[fill$=f00]{fill:#d8a810}[fill$=e9]{fill:#8a4fbf}"
+    ++ codes "[fill$=a]{fill:#8b949e}")
+
 abbrev pub dark_styles : List ℕ
 dark_styles =
     codes "@media(prefers-color-scheme:dark){text{fill:#e6e9ed}.k{fill:#9aa4af}"
     ++ (codes "[fill$=fff]{fill:#14171b}[fill$=f2]{fill:#20262c}[fill$=e00]{fill:#ed7c27}"
     ++ (codes "[fill$=b2]{fill:#3d80eb}[fill$=e73]{fill:#4bc488}[fill$=a7]{fill:#c498b0}"
-    ++ codes "[fill$=f00]{fill:#ffe260}[fill$=e9]{fill:#e2daff}[fill$=a]{fill:#6c7479}}"))
+    ++ (codes "[fill$=f00]{fill:#ffe260}[fill$=e9]{fill:#e2daff}[fill$=a]{fill:#6c7479}"
+    ++ codes "[fill$=d]{fill:#cc2211}}")))
 
 -- the styles and the grounds
 unfoldable pub grounds_text : List ℕ
 grounds_text =
-    element (codes "style") [] (styles ++ dark_styles) (codes "\n")
+    element (codes "style") [] (styles ++ (light_styles ++ dark_styles)) (codes "\n")
     ++ (element (codes "pattern") tile_attributes tile (codes "\n")
     ++ single (codes "rect")
     ((codes "width", codes "1080") ∷ (codes "height", codes "712")
@@ -76,21 +91,28 @@ unfoldable pub axes_text : List ℕ
 axes_text = flat_map (λ l. label l.x l.y l.class l.text) axis_labels
 
 -- what a colour says, below the title
-unfoldable pub meaning_label : By → List ℕ
-meaning_label by =
+unfoldable pub meaning_label : List ℕ → List ℕ
+meaning_label meaning =
     codes "<text x=\"24\" y=\"58\" class=\"k\">"
-    ++ (dots ++ (colour_meaning by ++ codes "</text>\n"))
+    ++ (dots ++ (meaning ++ codes "</text>\n"))
 
 -- the title of the list
-unfoldable pub list_label : By → List ℕ
-list_label by = label (codes "694") (codes "422") (codes "b") (list_title by)
+unfoldable pub list_label : List ℕ → List ℕ
+list_label title = label (codes "694") (codes "422") (codes "b") title
 
 -- which tables they are, beside the title
 unfoldable pub facts_label : List ℕ → List ℕ
 facts_label facts = label (codes "1056") (codes "36") (codes "n k") facts
 
--- what comes before the titles of the maps
-unfoldable pub head_by : By → List ℕ → List ℕ
-head_by by facts =
-    title_text ++ (description by ++ (grounds_text
-    ++ (meaning_label by ++ (facts_label facts ++ (axes_text ++ list_label by)))))
+-- what comes before the titles of the maps: what a colour says, the title of the list, and which
+-- tables they are
+unfoldable pub head_with : List ℕ → List ℕ → List ℕ → List ℕ
+head_with meaning title facts =
+    title_text ++ (description meaning ++ (grounds_text
+    ++ (meaning_label meaning ++ (facts_label facts ++ (axes_text ++ list_label title)))))
+
+abbrev pub head_by : By → List ℕ → List ℕ
+head_by by facts = head_with (colour_meaning by) (list_title by) facts
+
+abbrev pub sets_head : List ℕ → List ℕ
+sets_head facts = head_with sets_meaning sets_title facts

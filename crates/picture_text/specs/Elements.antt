@@ -2,7 +2,7 @@
 use Rattle.std.specs.Prelude.{ℕ, ◌+◌, ◌==◌, List, ◌++◌, if◌then◌else◌, codes, decimal}
 
 -- the colour of the mark after the index: six that differ for eyes of every kind (Okabe and Ito),
--- and grey for all other groups
+-- grey for all other groups, and one nearly black for those of them that spread
 abbrev pub colour : ℕ → List ℕ
 colour index =
     if index == 0 then codes "#d55e00"
@@ -11,7 +11,8 @@ colour index =
     else if index == 3 then codes "#cc79a7"
     else if index == 4 then codes "#e69f00"
     else if index == 5 then codes "#56b4e9"
-    else codes "#57606a"
+    else if index == 6 then codes "#57606a"
+    else codes "#0b0c0d"
 
 -- that of a free slot
 abbrev pub ground : List ℕ

@@ -3,5 +3,7 @@ pub mod Elements
 pub mod Head
 pub mod By
 pub mod Marks
+pub mod Spread
+pub mod Notes
 pub mod Maps
 pub mod Picture

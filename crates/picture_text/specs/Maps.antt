@@ -35,3 +35,9 @@ ground_text size =
 unfoldable pub map_text : ℕ → ℕ → List ℕ → List (List ℕ) → List ℕ
 map_text x side marks names =
     map_opening x ++ (ground_text (9 * side) ++ (paths_text marks side names ++ codes "</g>\n"))
+
+-- the same, and over it a path of some marks in the colour of an index
+unfoldable pub map_with : ℕ → ℕ → List ℕ → List (List ℕ) → List ℕ → ℕ → List ℕ → List ℕ
+map_with x side marks names over index name =
+    map_opening x ++ (ground_text (9 * side) ++ (paths_text marks side names
+    ++ (path_element over side name index ++ codes "</g>\n")))

@@ -1,12 +1,14 @@
 -- The picture of the tables, from the groups of their sources in order, the marks of their slots,
 -- and the names of the listed groups.
-use Rattle.std.specs.Prelude.{ℕ, ◌+◌, ◌-◌, ◌*◌, ◌==◌, nat_lt, List, [], ◌∷◌, ◌++◌, count_by, length, take, drop, codes, decimal, if◌then◌else◌, slice_index_or}
+use Rattle.std.specs.Prelude.{ℕ, ◌+◌, ◌-◌, ◌*◌, ◌==◌, nat_lt, List, [], ◌∷◌, ◌++◌, count_by, length, map, take, drop, codes, decimal, if◌then◌else◌, slice_index_or}
 use Rattle.std.specs.List.{flat_map, range_with_len}
-use Rattle.picture_text.specs.By.{head_by}
+use Rattle.picture_text.specs.By.{head_by, sets_head}
 use Rattle.picture_text.specs.Elements.{colour, ground, count_text, row_text, new_title, tried_title, wide_text}
 use Rattle.picture_text.specs.Head.{head_text, labels_text, opening_text}
-use Rattle.picture_text.specs.Maps.{map_text, name_at}
-use Rattle.picture_text.specs.Marks.{dots_of}
+use Rattle.picture_text.specs.Maps.{map_text, map_with, name_at}
+use Rattle.picture_text.specs.Marks.{buckets_of, dots_of}
+use Rattle.picture_text.specs.Notes.{notes_by}
+use Rattle.picture_text.specs.Spread.{spread_of}
 use Rattle.slot_grid.specs.declared.sizes.TheConstants.{NEW_SLOTS}
 use Rattle.picture_text.specs.declared.by.By.{By}
 use Rattle.table_groups.specs.declared.sources.Source.{Source}
@@ -62,11 +64,15 @@ group_rows listed names =
     flat_map (λ index. group_row (source_at listed index) (name_at names index) index)
     (range_with_len 0 (length listed))
 
+-- that of a mark: at an index of the list, with its name
+unfoldable pub mark_row : List ℕ → ℕ → ℕ → List ℕ → List ℕ
+mark_row marks mark index name =
+    row_text (top_of index) (colour (mark - 1)) name (dots_of marks mark)
+    (dots_of (in_tried marks) mark)
+
 -- that of all other groups
-unfoldable pub others_text : List ℕ → ℕ → List ℕ
-others_text marks others =
-    row_text (top_of 6) (colour 6) (others_name others) (dots_of marks 7)
-    (dots_of (in_tried marks) 7)
+abbrev pub others_text : List ℕ → ℕ → List ℕ
+others_text marks others = mark_row marks 7 6 (others_name others)
 
 -- the same, if there are some
 abbrev pub others_row : List ℕ → ℕ → List ℕ
@@ -112,3 +118,62 @@ unfoldable pub picture_by_text : By → List ℕ → List Source → List ℕ �
 picture_by_text by facts sources marks names =
     opening_text ++ (head_by by facts
     ++ (body_text sources marks (names_of (others_of sources) names) ++ codes "</svg>\n"))
+
+-- WHERE SOME OF THE OTHER GROUPS SPREAD
+
+-- their name
+unfoldable pub spread_name : ℕ → List ℕ
+spread_name spread = codes "of these, spread out: " ++ decimal spread
+
+-- both maps, each with a path of some marks over it
+unfoldable pub maps_with : List ℕ → List (List ℕ) → List ℕ → ℕ → List ℕ → List ℕ
+maps_with marks names over index name =
+    map_with 56 32 (in_new marks) names (in_new over) index name
+    ++ map_with 694 16 (in_tried marks) names (in_tried over) index name
+
+-- what is between the head and the end; `over` has the mark 8 in slots of groups that spread
+unfoldable pub spread_body : By → List Source → List ℕ → List (List ℕ) → List ℕ → List ℕ
+spread_body by sources marks names over =
+    titles_text marks
+    ++ (maps_with marks names over 7 (spread_name (spread_of by sources))
+    ++ (rows_text (listed_in sources) marks names (others_of sources)
+    ++ (wide_text (wide_of sources)
+    ++ (mark_row over 8 9 (spread_name (spread_of by sources)) ++ notes_by by))))
+
+unfoldable pub spread_picture : By → List ℕ → List Source → List ℕ → List (List ℕ) → List ℕ
+    → List ℕ
+spread_picture by facts sources marks names over =
+    opening_text ++ (head_by by facts
+    ++ (spread_body by sources marks (names_of (others_of sources) names) over
+    ++ codes "</svg>\n"))
+
+-- WHERE COLOURS GO BY SETS OF ADDRESSES
+
+-- the numbers of a set: its slots, and its buckets of the new table
+abbrev pub set_numbers : List ℕ → ℕ → Source
+set_numbers marks index = record {
+  group = record { items = [] };
+  new = dots_of (in_new marks) (index + 1);
+  tried = dots_of (in_tried marks) (index + 1);
+  buckets = buckets_of marks (index + 1);
+}
+
+abbrev pub sets_in : List ℕ → ℕ → List Source
+sets_in marks count = map (set_numbers marks) (range_with_len 0 count)
+
+-- the name of the peers that are in none of the sets
+abbrev pub rest_name : List ℕ
+rest_name = codes "in no set"
+
+-- the rows of the sets, of the other peers and of the free slots
+unfoldable pub sets_rows : List ℕ → List (List ℕ) → List ℕ
+sets_rows marks names =
+    group_rows (sets_in marks (length names)) names
+    ++ (mark_row marks 7 (length names) rest_name ++ free_row marks (length names + 1))
+
+-- the picture from the marks of the slots, and the names of the sets: a set has its position among
+-- them, counted from 1
+unfoldable pub sets_picture : List ℕ → List ℕ → List (List ℕ) → List ℕ
+sets_picture facts marks names =
+    opening_text ++ (sets_head facts ++ (titles_text marks
+    ++ (maps_with marks names marks 6 rest_name ++ (sets_rows marks names ++ codes "</svg>\n"))))

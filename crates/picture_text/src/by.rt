@@ -1,5 +1,5 @@
 ghost use Rattle.std.specs.Prelude.{◌≡◌, ◌++◌, OnOk};
-ghost use Rattle.picture_text.specs.By.{axes_text, colour_meaning, description, dots, facts_label, grounds_text, head_by, list_label, list_title, meaning_label, title_text};
+ghost use Rattle.picture_text.specs.By.{axes_text, colour_meaning, description, dots, facts_label, grounds_text, head_by, head_with, list_label, list_title, meaning_label, sets_head, title_text};
 
 use crate::Memory;
 use crate::pieces::put_around;
@@ -66,10 +66,14 @@ fn grounds_text() -> &'static [u8]
 {
     b"<style>text{font:13px sans-serif;fill:#1b1f24}.h{font-size:20px}.b{font-weight:bold}\
         .k{font-size:12px;fill:#57606a}.n{text-anchor:end}\
+        [fill$=e00]{fill:#652c01}[fill$=b2]{fill:#00396f}[fill$=e73]{fill:#49a97a}\
+        [fill$=a7]{fill:#b61b50}[fill$=f00]{fill:#d8a810}[fill$=e9]{fill:#8a4fbf}\
+        [fill$=a]{fill:#8b949e}\
         @media(prefers-color-scheme:dark){text{fill:#e6e9ed}.k{fill:#9aa4af}\
         [fill$=fff]{fill:#14171b}[fill$=f2]{fill:#20262c}[fill$=e00]{fill:#ed7c27}\
         [fill$=b2]{fill:#3d80eb}[fill$=e73]{fill:#4bc488}[fill$=a7]{fill:#c498b0}\
-        [fill$=f00]{fill:#ffe260}[fill$=e9]{fill:#e2daff}[fill$=a]{fill:#6c7479}}</style>\n\
+        [fill$=f00]{fill:#ffe260}[fill$=e9]{fill:#e2daff}[fill$=a]{fill:#6c7479}\
+        [fill$=d]{fill:#cc2211}}</style>\n\
         <pattern id=\"free\" width=\"9\" height=\"9\" patternUnits=\"userSpaceOnUse\"><path \
         fill=\"#eceff2\" d=\"M0 0h8v8h-8z\"/></pattern>\n\
         <rect width=\"1080\" height=\"712\" fill=\"#fff\"/>\n"
@@ -100,29 +104,29 @@ fn axes_text() -> &'static [u8]
 }
 
 /// Appends what a colour says, between two texts.
-fn put_meaning(by: By, before: &[u8], after: &[u8], out: &mut Vec<u8>) -> Result<(), Memory>
+fn put_meaning(meaning: &[u8], before: &[u8], after: &[u8], out: &mut Vec<u8>) -> Result<(), Memory>
     ensures { OnOk result (out.new.items ≡ out.old.items
-        ++ (before.now ++ (dots ++ (colour_meaning by ++ after.now)))) }
+        ++ (before.now ++ (dots ++ (meaning.now ++ after.now)))) }
 {
     put_text(before, out)?;
-    put_around(dots(), by.colour_meaning(), after, out)
+    put_around(dots(), meaning, after, out)
 }
 
 /// Appends the description.
 #[tactic(auto, unfolding(crate::specs::By::description))]
-fn put_description(by: By, out: &mut Vec<u8>) -> Result<(), Memory>
-    ensures { OnOk result (out.new.items ≡ out.old.items ++ description by) }
+fn put_description(meaning: &[u8], out: &mut Vec<u8>) -> Result<(), Memory>
+    ensures { OnOk result (out.new.items ≡ out.old.items ++ description meaning.now) }
 {
-    put_meaning(by, b"<desc>", b"</desc>\n", out)
+    put_meaning(meaning, b"<desc>", b"</desc>\n", out)
 }
 
 /// Appends the label that says what a colour says.
 #[tactic(auto, unfolding(crate::specs::By::meaning_label))]
-fn put_meaning_label(by: By, out: &mut Vec<u8>) -> Result<(), Memory>
-    ensures { OnOk result (out.new.items ≡ out.old.items ++ meaning_label by) }
+fn put_meaning_label(meaning: &[u8], out: &mut Vec<u8>) -> Result<(), Memory>
+    ensures { OnOk result (out.new.items ≡ out.old.items ++ meaning_label meaning.now) }
 {
     put_meaning(
-        by,
+        meaning,
         b"<text x=\"24\" y=\"58\" class=\"k\">",
         b"</text>\n",
         out,
@@ -131,12 +135,12 @@ fn put_meaning_label(by: By, out: &mut Vec<u8>) -> Result<(), Memory>
 
 /// Appends the title of the list.
 #[tactic(auto, unfolding(crate::specs::By::list_label))]
-fn put_list_label(by: By, out: &mut Vec<u8>) -> Result<(), Memory>
-    ensures { OnOk result (out.new.items ≡ out.old.items ++ list_label by) }
+fn put_list_label(title: &[u8], out: &mut Vec<u8>) -> Result<(), Memory>
+    ensures { OnOk result (out.new.items ≡ out.old.items ++ list_label title.now) }
 {
     put_around(
         b"<text x=\"694\" y=\"422\" class=\"b\">",
-        by.list_title(),
+        title,
         b"</text>\n",
         out,
     )
@@ -155,17 +159,38 @@ fn put_facts(facts: &[u8], out: &mut Vec<u8>) -> Result<(), Memory>
     )
 }
 
-/// Appends what comes before the titles of the maps.
-#[tactic(auto, unfolding(crate::specs::By::head_by))]
+/// Appends what comes before the titles of the maps: what a colour says, the title of the list, and
+/// which tables they are.
+#[tactic(auto, unfolding(crate::specs::By::head_with))]
+fn put_head(meaning: &[u8], title: &[u8], facts: &[u8], out: &mut Vec<u8>) -> Result<(), Memory>
+    ensures { OnOk result (out.new.items
+        ≡ out.old.items ++ head_with meaning.now title.now facts.now) }
+{
+    put_text(title_text(), out)?;
+    put_description(meaning, out)?;
+    put_text(grounds_text(), out)?;
+    put_meaning_label(meaning, out)?;
+    put_facts(facts, out)?;
+    put_text(axes_text(), out)?;
+    put_list_label(title, out)?;
+    Ok(())
+}
+
+/// Appends the same where colours go by something.
 pub(crate) fn put_head_by(by: By, facts: &[u8], out: &mut Vec<u8>) -> Result<(), Memory>
     ensures { OnOk result (out.new.items ≡ out.old.items ++ head_by by facts.now) }
 {
-    put_text(title_text(), out)?;
-    put_description(by, out)?;
-    put_text(grounds_text(), out)?;
-    put_meaning_label(by, out)?;
-    put_facts(facts, out)?;
-    put_text(axes_text(), out)?;
-    put_list_label(by, out)?;
-    Ok(())
+    put_head(by.colour_meaning(), by.list_title(), facts, out)
+}
+
+/// Appends the same where they go by sets of addresses.
+pub(crate) fn put_sets_head(facts: &[u8], out: &mut Vec<u8>) -> Result<(), Memory>
+    ensures { OnOk result (out.new.items ≡ out.old.items ++ sets_head facts.now) }
+{
+    put_head(
+        b"the first set in the list that has the peer.",
+        b"Sets of peers",
+        facts,
+        out,
+    )
 }

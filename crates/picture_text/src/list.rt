@@ -1,5 +1,5 @@
 ghost use Rattle.std.specs.Prelude.{◌≡◌, ◌+◌, ◌*◌, ◌<◌, ◌≤◌, ◌++◌, length, map, OnOk, IfOk};
-ghost use Rattle.picture_text.specs.Picture.{free_row, group_row, group_rows, others_name, others_row, others_text, rows_text, source_at, top_of};
+ghost use Rattle.picture_text.specs.Picture.{free_row, group_row, group_rows, mark_row, others_name, others_row, others_text, rows_text, source_at, top_of};
 ghost use Rattle.slot_grid.specs.declared.sizes.TheConstants.{ALL_SLOTS};
 
 use crate::Memory;
@@ -49,7 +49,11 @@ fn put_group_row(source: &Source, name: &[u8], index: u8, out: &mut Vec<u8>) -> 
 
 /// Appends the rows of the listed groups.
 #[tactic(auto, unfolding(crate::specs::Picture::group_rows))]
-fn put_group_rows(listed: &[Source], names: &[Vec<u8>], out: &mut Vec<u8>) -> Result<(), Memory>
+pub(crate) fn put_group_rows(
+    listed: &[Source],
+    names: &[Vec<u8>],
+    out: &mut Vec<u8>,
+) -> Result<(), Memory>
     requires listed { length listed.now ≤ 6 }
     requires names { length listed.now ≤ length names.now }
     ensures { OnOk result (out.new.items ≡ out.old.items
@@ -83,18 +87,34 @@ fn put_others_row(marks: &[u8], others: usize, out: &mut Vec<u8>) -> Result<(), 
 }
 
 /// Appends the row of the groups that are not listed.
-#[tactic(auto, unfolding(crate::specs::Picture::others_text))]
 fn put_others(marks: &[u8], others: usize, out: &mut Vec<u8>) -> Result<(), Memory>
     requires { length marks.now ≡ ALL_SLOTS }
     ensures { OnOk result (out.new.items ≡ out.old.items ++ others_text marks.now others) }
 {
     let name = others_name(*out.allocator(), others)?;
+    put_mark_row(marks, 7, 6, name.as_slice(), out)
+}
+
+/// Appends the row of a mark from 1 on, at an index of the list, with its name.
+#[tactic(auto, unfolding(crate::specs::Picture::mark_row))]
+pub(crate) fn put_mark_row(
+    marks: &[u8],
+    mark: u8,
+    index: u8,
+    name: &[u8],
+    out: &mut Vec<u8>,
+) -> Result<(), Memory>
+    requires all { length marks.now ≡ ALL_SLOTS }
+    requires mark { 0 < mark }
+    ensures { OnOk result (out.new.items
+        ≡ out.old.items ++ mark_row marks.now mark index name.now) }
+{
     put_row(
-        top_of(6),
-        colour(6),
-        name.as_slice(),
-        u64::from(dots_of(marks, 7)),
-        u64::from(dots_of(tried_marks(marks), 7)),
+        top_of(index),
+        colour(mark - 1),
+        name,
+        u64::from(dots_of(marks, mark)),
+        u64::from(dots_of(tried_marks(marks), mark)),
         out,
     )?;
     Ok(())
@@ -102,7 +122,7 @@ fn put_others(marks: &[u8], others: usize, out: &mut Vec<u8>) -> Result<(), Memo
 
 /// Appends the row of the free slots.
 #[tactic(auto, unfolding(crate::specs::Picture::free_row))]
-fn put_free_row(marks: &[u8], index: u8, out: &mut Vec<u8>) -> Result<(), Memory>
+pub(crate) fn put_free_row(marks: &[u8], index: u8, out: &mut Vec<u8>) -> Result<(), Memory>
     requires { length marks.now ≡ ALL_SLOTS }
     ensures { OnOk result (out.new.items ≡ out.old.items ++ free_row marks.now index) }
 {

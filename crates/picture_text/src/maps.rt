@@ -1,5 +1,5 @@
 ghost use Rattle.std.specs.Prelude.{◌≡◌, ◌<◌, ◌≤◌, ◌++◌, length, map, OnOk};
-ghost use Rattle.picture_text.specs.Maps.{ground_text, map_opening, map_text, name_at, path_element, paths_text};
+ghost use Rattle.picture_text.specs.Maps.{ground_text, map_opening, map_text, map_with, name_at, path_element, paths_text};
 ghost use Rattle.slot_grid.specs.declared.sizes.TheConstants.{NEW_SLOTS};
 
 use crate::Memory;
@@ -27,6 +27,34 @@ pub(crate) fn put_map(
     put_map_opening(x, out)?;
     put_ground(9 * u32::from(side), out)?;
     put_paths(marks, side, names, out)?;
+    put_text(b"</g>\n", out)?;
+    Ok(())
+}
+
+/// Appends the same, and over it a path of some marks in the colour of an index, with its name.
+#[tactic(auto, unfolding(crate::specs::Maps::map_with))]
+pub(crate) fn put_map_with(
+    x: u32,
+    side: u16,
+    marks: &[u8],
+    names: &[Vec<u8>],
+    over: &[u8],
+    index: u8,
+    name: &[u8],
+    out: &mut Vec<u8>,
+) -> Result<(), Memory>
+    requires some { 0 < side }
+    requires few { length marks.now ≤ NEW_SLOTS }
+    requires names { length names.now ≤ 7 }
+    requires few_over { length over.now ≤ NEW_SLOTS }
+    requires index { index < 8 }
+    ensures { OnOk result (out.new.items ≡ out.old.items
+        ++ map_with x side marks.now (map (λ v. v.items) names.now) over.now index name.now) }
+{
+    put_map_opening(x, out)?;
+    put_ground(9 * u32::from(side), out)?;
+    put_paths(marks, side, names, out)?;
+    put_element(over, side, index, name, out)?;
     put_text(b"</g>\n", out)?;
     Ok(())
 }
@@ -80,7 +108,7 @@ fn put_element(
 ) -> Result<(), Memory>
     requires some { 0 < side }
     requires few { length marks.now ≤ NEW_SLOTS }
-    requires index { index < 7 }
+    requires index { index < 8 }
     ensures { OnOk result (out.new.items ≡ out.old.items
         ++ path_element marks.now side name.now index) }
 {

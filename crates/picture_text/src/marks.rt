@@ -1,7 +1,8 @@
-ghost use Rattle.std.specs.Prelude.{◌≡◌, ◌≤◌, length};
-ghost use Rattle.picture_text.specs.Marks.{dots_of, group_mark};
-ghost use Rattle.slot_grid.specs.declared.sizes.TheConstants.{ALL_SLOTS};
+ghost use Rattle.std.specs.Prelude.{◌≡◌, ◌≤◌, ◌<◌, length, if◌then◌else◌};
+ghost use Rattle.picture_text.specs.Marks.{buckets_of, dots_of, group_mark, has_mark, in_bucket};
+ghost use Rattle.slot_grid.specs.declared.sizes.TheConstants.{ALL_SLOTS, NEW_BUCKETS};
 
+use slot_grid::{NEW_BUCKETS, SLOTS};
 use table_groups::{Group, Source};
 
 /// Returns the mark of a group: its position in the list, counted from 1, and 7 if it is not there.
@@ -32,6 +33,51 @@ pub(crate) fn dots_of(marks: &[u8], mark: u8) -> u32
         if *next == mark {
             count += 1;
         }
+    }
+    count
+}
+
+/// Returns the marks of the slots of a bucket of the new table.
+fn in_bucket(marks: &[u8], bucket: u16) -> &[u8]
+    requires all { length marks.now ≡ ALL_SLOTS }
+    requires bucket { bucket < NEW_BUCKETS }
+    ensures { result.now ≡ in_bucket marks.now bucket }
+{
+    let start = usize::from(SLOTS) * usize::from(bucket);
+    &marks[start..][..usize::from(SLOTS)]
+}
+
+/// Returns `true` if a slot has the mark.
+fn has_mark(marks: &[u8], mark: u8) -> bool
+    ensures { result ≡ has_mark marks.now mark }
+{
+    let mut rest = marks;
+    while let [first, after @ ..] = rest {
+        if *first == mark {
+            return true;
+        }
+        rest = after;
+    }
+    false
+}
+
+/// Returns 1 if a slot has the mark, and 0 if none has.
+fn one_if_marked(marks: &[u8], mark: u8) -> u32
+    ensures is { result ≡ (if has_mark marks.now mark then 1 else 0) }
+    ensures few { result ≤ 1 }
+{
+    if has_mark(marks, mark) { 1 } else { 0 }
+}
+
+/// Returns how many buckets of the new table have a slot with the mark.
+#[tactic(auto, unfolding(crate::specs::Marks::buckets_of))]
+pub(crate) fn buckets_of(marks: &[u8], mark: u8) -> u32
+    requires { length marks.now ≡ ALL_SLOTS }
+    ensures { result ≡ buckets_of marks.now mark }
+{
+    let mut count = 0;
+    for bucket in 0..NEW_BUCKETS {
+        count += one_if_marked(in_bucket(marks, bucket), mark);
     }
     count
 }

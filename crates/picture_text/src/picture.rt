@@ -1,12 +1,12 @@
-ghost use Rattle.std.specs.Prelude.{◌≡◌, ◌+◌, ◌≤◌, ◌++◌, length, map, IfOk, OnOk};
+ghost use Rattle.std.specs.Prelude.{◌≡◌, ◌+◌, ◌<◌, ◌≤◌, ◌++◌, length, map, IfOk, OnOk};
 ghost use Rattle.picture_text.specs.Elements.{new_title, tried_title, wide_text};
-ghost use Rattle.picture_text.specs.Picture.{body_text, listed_in, maps_text, names_of, occupied, others_of, picture_by_text, picture_text, titles_text, wide_of};
+ghost use Rattle.picture_text.specs.Picture.{body_text, listed_in, maps_text, maps_with, names_of, occupied, others_of, picture_by_text, picture_text, titles_text, wide_of};
 ghost use Rattle.slot_grid.specs.declared.sizes.TheConstants.{ALL_SLOTS};
 
 use crate::by::put_head_by;
 use crate::head::{head_text, labels_text, opening_text};
 use crate::list::{others_name, put_rows};
-use crate::maps::put_map;
+use crate::maps::{put_map, put_map_with};
 use crate::marks::dots_of;
 use crate::parts::{new_marks, tried_marks};
 use crate::{By, Memory};
@@ -27,14 +27,14 @@ pub fn listed_in(sources: &[Source]) -> &[Source]
 }
 
 /// Returns how many groups are not listed.
-fn others_of(sources: &[Source]) -> usize
+pub(crate) fn others_of(sources: &[Source]) -> usize
     ensures { result ≡ others_of sources.now }
 {
     sources.len().saturating_sub(6)
 }
 
 /// Returns how many groups are in more than 32 buckets of the new table.
-fn wide_of(sources: &[Source]) -> usize
+pub(crate) fn wide_of(sources: &[Source]) -> usize
     ensures { result ≡ wide_of sources.now }
 {
     let mut count = 0;
@@ -56,7 +56,7 @@ fn occupied(marks: &[u8]) -> u32
 
 /// Appends how full the tables are.
 #[tactic(auto, unfolding(crate::specs::Picture::titles_text))]
-fn put_titles(marks: &[u8], out: &mut Vec<u8>) -> Result<(), Memory>
+pub(crate) fn put_titles(marks: &[u8], out: &mut Vec<u8>) -> Result<(), Memory>
     requires { length marks.now ≡ ALL_SLOTS }
     ensures { OnOk result (out.new.items ≡ out.old.items ++ titles_text marks.now) }
 {
@@ -93,7 +93,7 @@ fn put_tried_title(count: u32, out: &mut Vec<u8>) -> Result<(), Memory>
 
 /// Appends how many groups are in many buckets.
 #[tactic(auto, unfolding(crate::specs::Elements::wide_text))]
-fn put_wide(count: usize, out: &mut Vec<u8>) -> Result<(), Memory>
+pub(crate) fn put_wide(count: usize, out: &mut Vec<u8>) -> Result<(), Memory>
     ensures { OnOk result (out.new.items ≡ out.old.items ++ wide_text count) }
 {
     put_number(
@@ -115,6 +115,30 @@ fn put_maps(marks: &[u8], names: &[Vec<u8>], out: &mut Vec<u8>) -> Result<(), Me
 {
     put_map(56, 32, new_marks(marks), names, out)?;
     put_map(694, 16, tried_marks(marks), names, out)?;
+    Ok(())
+}
+
+/// Appends both maps, each with a path of some marks over it in the colour of an index.
+#[tactic(auto, unfolding(crate::specs::Picture::maps_with))]
+pub(crate) fn put_maps_with(
+    marks: &[u8],
+    names: &[Vec<u8>],
+    over: &[u8],
+    index: u8,
+    name: &[u8],
+    out: &mut Vec<u8>,
+) -> Result<(), Memory>
+    requires marks { length marks.now ≡ ALL_SLOTS }
+    requires names { length names.now ≤ 7 }
+    requires over { length over.now ≡ ALL_SLOTS }
+    requires index { index < 8 }
+    ensures { OnOk result (out.new.items ≡ out.old.items
+        ++ maps_with marks.now (map (λ v. v.items) names.now) over.now index name.now) }
+{
+    let (marks_left, over_left) = (new_marks(marks), new_marks(over));
+    put_map_with(56, 32, marks_left, names, over_left, index, name, out)?;
+    let (marks_right, over_right) = (tried_marks(marks), tried_marks(over));
+    put_map_with(694, 16, marks_right, names, over_right, index, name, out)?;
     Ok(())
 }
 
@@ -141,7 +165,11 @@ fn put_body(
 
 /// Returns the names of the marks: those of the listed groups, and that of all others if there are
 /// some.
-fn names_of(alloc: Global, others: usize, names: Vec<Vec<u8>>) -> Result<Vec<Vec<u8>>, Memory>
+pub(crate) fn names_of(
+    alloc: Global,
+    others: usize,
+    names: Vec<Vec<u8>>,
+) -> Result<Vec<Vec<u8>>, Memory>
     requires { length names.items ≤ 6 }
     ensures names { IfOk result (λ all. map (λ v. v.items) all.items
         ≡ names_of others (map (λ v. v.items) names.items)) }

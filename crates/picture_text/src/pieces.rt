@@ -32,7 +32,8 @@ pub(crate) fn colour(index: u8) -> &'static [u8]
         3 => b"#cc79a7",
         4 => b"#e69f00",
         5 => b"#56b4e9",
-        _ => b"#57606a",
+        6 => b"#57606a",
+        _ => b"#0b0c0d",
     }
 }
 

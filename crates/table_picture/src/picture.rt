@@ -1,15 +1,16 @@
 ghost use Rattle.std.specs.Prelude.{◌≡◌, ◌≤◌, ◌==◌, ◌++◌, length, map, IfOk, OnOk, option_map};
 ghost use Rattle.std.specs.List.{position_or_len};
-ghost use Rattle.table_picture.specs.By.{facts_text, newest_in, view_by};
+ghost use Rattle.table_picture.specs.By.{newest_in, view_by};
 ghost use Rattle.table_picture.specs.Picture.{names_in, picture_by, picture_of, picture_with, rec_name};
 
 use crate::Memory;
 use crate::classes::{name_by, newest_of};
+use crate::facts::facts_of;
 use crate::marks::marks_by;
 use crate::recoloured::{Recoloured, rec_in};
-use net_addr::{put_number, put_text};
+use crate::marks_by_rule::spread_marks;
 use peer_rec::Rec;
-use picture_text::{By, listed_in};
+use picture_text::{By, listed_in, put_spread_picture, spread_of};
 use placing::Placer;
 use std::alloc::Global;
 use std::hash::BuildHasher;
@@ -100,25 +101,13 @@ pub fn put_picture<T: TableView, G: BuildHasher, L: Ledger>(
     Ok(())
 }
 
-/// Returns which tables they are: those of a chain, with this newest time in seconds since 1970.
-#[tactic(auto, unfolding(crate::specs::By::facts_text))]
-fn facts_of(alloc: Global, chain: &[u8], newest: u32) -> Result<Vec<u8>, Memory>
-    ensures { IfOk result (λ facts. facts.items ≡ facts_text chain.now newest) }
-{
-    let mut facts = Vec::new(alloc);
-    put_text(b"chain ", &mut facts)?;
-    put_text(chain, &mut facts)?;
-    put_number(b", newest time ", u64::from(newest), &mut facts)?;
-    Ok(facts)
-}
-
 /// Appends the picture of some tables with the names that records of others have.
 #[tactic(auto, unfolding(crate::specs::Picture::picture_with, crate::specs::Picture::listed_of))]
 fn put_picture_with<T: TableView, U: TableView, G: BuildHasher, L: Ledger>(
     alloc: Global,
     hasher: &G,
     by: By,
-    chain: &[u8],
+    facts: &[u8],
     newest: u32,
     tables: &T,
     other: &U,
@@ -126,7 +115,7 @@ fn put_picture_with<T: TableView, U: TableView, G: BuildHasher, L: Ledger>(
     steps: &mut Steps<L>,
 ) -> Result<(), Memory>
     ensures text { OnOk result (out.new.items ≡ out.old.items
-        ++ picture_with by chain.now newest (T.view tables.now) (U.view other.now)) }
+        ++ picture_with by facts.now newest (T.view tables.now) (U.view other.now)) }
 {
     let sources = sources_of(alloc, hasher, other, steps)?;
     let listed = listed_in(sources.as_slice());
@@ -140,16 +129,12 @@ fn put_picture_with<T: TableView, U: TableView, G: BuildHasher, L: Ledger>(
         listed.len() as u8,
         steps,
     )?;
-    let facts = facts_of(alloc, chain, newest)?;
-    picture_text::put_picture_by(
-        alloc,
-        by,
-        facts.as_slice(),
-        sources.as_slice(),
-        marks.as_slice(),
-        names,
-        out,
-    )
+    let (groups, marks) = (sources.as_slice(), marks.as_slice());
+    if spread_of(by, groups) == 0 {
+        return picture_text::put_picture_by(alloc, by, facts, groups, marks, names, out);
+    }
+    let over = spread_marks(alloc, hasher, by, other, groups, steps)?;
+    put_spread_picture(alloc, by, facts, groups, marks, names, over.as_slice(), out)
 }
 
 /// Appends the picture of the tables whose colours go by something. The file is of a chain of this
@@ -168,6 +153,8 @@ pub fn put_picture_by<T: TableView, G: BuildHasher, L: Ledger>(
 {
     let recs = tables.records(steps)?;
     let newest = newest_of(recs.items());
+    let facts = facts_of(alloc, chain, recs.items(), tables.places())?;
     let other = Recoloured::of(alloc, tables, by, newest, steps)?;
-    put_picture_with(alloc, hasher, by, chain, newest, tables, &other, out, steps)
+    let facts = facts.as_slice();
+    put_picture_with(alloc, hasher, by, facts, newest, tables, &other, out, steps)
 }
