@@ -43,8 +43,9 @@ new_peers key kind past before after sum text file line of_map input is = (
     has_map = of_map.1;
     listing = subst (λ s. IsListing key s text is.0) of_map.2 is.1;
     whole = is.2;
+    reads = is.3;
   },
-  is.3,
+  is.4,
 )
 
 -- EVERY MOMENT
