@@ -18,7 +18,7 @@
 # make endings    tries the exit codes of the built program and their texts
 # make mistakes   makes some hundred mistakes with it, and compares what standard error says
 # make lib        proves the library for C, and builds bin/lib/libaddrman.a and libaddrman.so.1; with
-#                 BACKEND=rattle by Rattle's own compiler, with what a debugger needs for a backtrace
+#                 BACKEND=rattle by Rattle's own compiler, with backtraces for a debugger alone
 # make lib-test   tries it from C, C++ and Python, beside the built program
 # make ci-lib-test  the same with what rt ci has just proved and built in this clone
 # make ci-program-test  rows, endings, mistakes and examples with what rt ci has just proved and built in this clone
