@@ -16,13 +16,13 @@ mod second;
 
 use crate::given::{Given, folder_of};
 use crate::placed::Placed;
+pub use crate::second::Facts;
 use crate::second::second_lines;
 use addrman_run::{Learned, Status, run_learning, status_line};
 use arguments::help_text;
 pub use ended::Ended;
 use hints::NotedFolder;
 use host_io::{Name, StdSink, StdSource};
-pub use second::Facts;
 use std::alloc::Global;
 use std::fs::File;
 use std::hash::RandomState;
