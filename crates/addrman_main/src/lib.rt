@@ -16,6 +16,7 @@ mod second;
 
 use crate::given::{Given, folder_of};
 use crate::placed::Placed;
+pub use crate::second::Facts;
 use crate::second::second_lines;
 use addrman_run::{Learned, Status, run_learning, status_line};
 use arguments::{help_text, read_request};
@@ -24,7 +25,6 @@ use hints::NotedFolder;
 use host_io::{Bytes, Name, Source, StdSink, StdSource};
 use raw_file::{InputFault, ListingFault, read_input};
 use raw_read::{MAX_TEXT, RawFault};
-pub use second::Facts;
 use std::alloc::Global;
 use std::fs::File;
 use std::hash::RandomState;
