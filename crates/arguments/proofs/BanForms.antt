@@ -1,5 +1,5 @@
 -- The arguments for a list of bans: `--core` or not, and then as many as the command has.
-use Rattle.std.proofs.Common.{◌≡◌, ◌≢◌, ◌≤◌, ◌<◌, ℕ, true, List, [], ◌∷◌, codes, length, drop, get_or, decimal, Option, Some, None, refl, sym, ap, subst, ◌∙◌, arith}
+use Rattle.std.proofs.Common.{◌≡◌, ◌≢◌, ◌≤◌, ◌<◌, ℕ, true, List, [], ◌∷◌, length, drop, get_or, decimal, Option, Some, None, refl, sym, ap, subst, ◌∙◌, arith}
 use Rattle.std.proofs.lemmas.Fmt.{decimal_injective}
 use Rattle.std.proofs.lemmas.Option.{none-some}
 use Rattle.ban_list.proofs.Named.{one_subnet_by}
@@ -12,7 +12,7 @@ use Rattle.grammar.specs.Fields.{AllMean, Kind, Value}
 use Rattle.grammar.specs.Table.{all_definite}
 use Rattle.grammar.proofs.TableLemmas.{one_list}
 use Rattle.arguments.specs.Options.{HasBanRule}
-use Rattle.arguments.specs.Table.{Fields, ForBans, HasNoValues, IsPeriod, IsSubnetIn, OfSubnet, Period, Reads, TheBanFields, TheFields, ThePeriod, TheSubnet, Values}
+use Rattle.arguments.specs.Table.{Fields, ForBans, HasNoValues, OfSubnet, Period, Reads, TheBanFields, TheFields, ThePeriod, TheSubnet, Values}
 
 -- THE RULE
 

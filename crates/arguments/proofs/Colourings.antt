@@ -1,5 +1,5 @@
 -- What the colours of a picture show, and the arguments after it.
-use Rattle.std.proofs.Common.{◌≡◌, ℕ, List, [], ◌∷◌, codes, find, get_or, Option, Some, None, inl, inr, refl, sym, ap, subst, ◌∙◌, arith}
+use Rattle.std.proofs.Common.{◌≡◌, ℕ, List, [], ◌∷◌, codes, find, get_or, Option, Some, inl, inr, refl, sym, ap, subst, ◌∙◌, arith}
 use Rattle.std.specs.Prelude.{bytes_eq, unwrap_or}
 use Rattle.std.proofs.lemmas.Slice.Eq.{bytes_eq-Decides}
 use Rattle.peers_file.specs.declared.chain.Chain.{Chain}
@@ -17,7 +17,7 @@ use Rattle.arguments.specs.declared.marks.Marks.{Marks}
 use Rattle.arguments.proofs.Choosing.{one_net, same_start, third_of_net, third_of_none, third_of_raw}
 use Rattle.arguments.proofs.Marking.{net_or_marked, one_marked, third_at_most, third_of_marked}
 use Rattle.arguments.proofs.Names.{passes}
-use Rattle.arguments.proofs.WithCore.{apart_net, not_read, one_kind}
+use Rattle.arguments.proofs.WithCore.{apart_net, not_read}
 
 -- the one that a word is found to be
 abbrev pub found_by : List ℕ → Option Colouring

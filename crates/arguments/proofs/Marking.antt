@@ -9,7 +9,6 @@ use Rattle.ban_list.specs.declared.ban.BanRule.{BanRule}
 use Rattle.ban_list.specs.declared.ban.BanRule.TheVariants.{Labels}
 use Rattle.ban_list.specs.declared.subnet.Subnet.{Subnet}
 use Rattle.peers_file.specs.declared.chain.Chain.{Chain}
-use Rattle.peers_file.specs.declared.chain.Chain.TheVariants.{Main}
 use Rattle.risk_parts.specs.Sets.{IsSetText}
 use Rattle.risk_parts.specs.declared.addr_set.AddrSet.{AddrSet}
 use Rattle.risk_parts.specs.declared.addr_set.AddrSet.TheVariants as addr_set

@@ -1,5 +1,5 @@
 -- Worked examples of the options of a replay.
-use Rattle.std.specs.Prelude.{◌≡◌, ℕ, List, [], ◌∷◌, ◌++◌, replicate, codes, Some, None, refl}
+use Rattle.std.specs.Prelude.{ℕ, List, [], ◌∷◌, ◌++◌, replicate, codes, Some, None, refl}
 use Rattle.std.proofs.Common.{inl, inr}
 use Rattle.hex.proofs.OnLiterals.{hex_on_literals}
 use Rattle.peers_file.specs.declared.chain.Chain.TheVariants.{Main, Test, Signet}

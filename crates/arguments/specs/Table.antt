@@ -18,7 +18,6 @@ use Rattle.arguments.specs.declared.file_kind.FileKind.{FileKind}
 use Rattle.arguments.specs.declared.grouping.Grouping.{Grouping}
 use Rattle.arguments.specs.declared.name.CommandName.{CommandName}
 use Rattle.arguments.specs.declared.name.CommandName.TheVariants as name
-use Rattle.arguments.specs.declared.marks.Marks.{Marks}
 use Rattle.arguments.specs.declared.request.Request.{Request}
 use Rattle.arguments.specs.declared.request.Request.TheVariants.{Replay, Opener, Compile, Check, Decompile, Diff, Limit, Lookup, LookupLines, Address, AddressLines, Show, Anchors, Picture, Raw, Info, Groups, Risk, FromRaw, Ban, Unban, Banned, Bans, Gen, Trial, Help, Version}
 use Rattle.arguments.specs.declared.tables_from.TablesFrom.{TablesFrom}

@@ -4,8 +4,10 @@ ghost use Rattle.ban_list.specs.SubnetText.{IsSubnetTextBy};
 ghost use Rattle.ban_list.specs.declared.ban.BanRule.{BanRule};
 ghost use Rattle.ban_list.specs.declared.subnet.Subnet.{Subnet};
 ghost use Rattle.arguments.specs.Options.{HasBanRule};
-ghost use Rattle.arguments.specs.Table.{HasNoValues, OfSubnet, Period, Reads, ThePeriod, TheSubnet};
+ghost use Rattle.arguments.specs.Table.{HasNoValues, OfSubnet, Period, Reads, name_of, request_values};
+ghost use Rattle.arguments.specs.declared.name.CommandName.TheVariants as name;
 
+use crate::Request;
 use crate::options::{after_flag, only_word};
 use ban_list::{BanRule, Subnet, parse_subnet_by};
 use net_addr::parse_number;
@@ -32,9 +34,9 @@ pub(crate) fn cut_ban_rule(words: &[String], count: usize) -> (BanRule, &[String
 }
 
 /// Reads the arguments after `unban`: `--core`, if the list is Bitcoin Core's, and a subnet.
-pub(crate) fn read_subnet(words: &[String]) -> Option<(BanRule, Subnet)>
-    ensures found { IfSome result (λ unban.
-        Reads OfSubnet (map string_bytes words.now) (TheSubnet unban.0 unban.1)) }
+pub(crate) fn read_subnet(words: &[String]) -> Option<Request>
+    ensures found { IfSome result (λ request. (name_of request ≡ name.Unban)
+        × Reads OfSubnet (map string_bytes words.now) (request_values request)) }
     ensures none { IfNone result (HasNoValues OfSubnet (map string_bytes words.now)) }
 {
     let (rule, rest) = cut_ban_rule(words, 1);
@@ -42,16 +44,16 @@ pub(crate) fn read_subnet(words: &[String]) -> Option<(BanRule, Subnet)>
         return None;
     };
     match parse_subnet_by(rule, word) {
-        Some(subnet) => Some((rule, subnet)),
+        Some(subnet) => Some(Request::Unban { rule, subnet }),
         None => None,
     }
 }
 
 /// Reads the arguments after `ban`: `--core`, if the list is Bitcoin Core's, a subnet and two
 /// times, the earlier one first.
-pub(crate) fn read_period(words: &[String]) -> Option<(BanRule, Subnet, u32, u32)>
-    ensures found { IfSome result (λ ban.
-        Reads Period (map string_bytes words.now) (ThePeriod ban.0 ban.1 ban.2 ban.3)) }
+pub(crate) fn read_period(words: &[String]) -> Option<Request>
+    ensures found { IfSome result (λ request. (name_of request ≡ name.Ban)
+        × Reads Period (map string_bytes words.now) (request_values request)) }
     ensures none { IfNone result (HasNoValues Period (map string_bytes words.now)) }
 {
     let (rule, rest) = cut_ban_rule(words, 3);
@@ -59,7 +61,12 @@ pub(crate) fn read_period(words: &[String]) -> Option<(BanRule, Subnet, u32, u32
         return None;
     };
     match period_of(rule, subnet, now, until) {
-        Some((subnet, now, until)) => Some((rule, subnet, now, until)),
+        Some((subnet, now, until)) => Some(Request::Ban {
+            rule,
+            subnet,
+            now,
+            until,
+        }),
         None => None,
     }
 }

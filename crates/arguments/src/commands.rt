@@ -1,7 +1,9 @@
 ghost use Rattle.std.specs.Prelude.{◌≡◌, map, string_bytes, IfSome, IfNone};
-ghost use Rattle.arguments.specs.Table.{HasNoValues, NameCommand, OfCommand, plain_word};
+ghost use Rattle.arguments.specs.Table.{HasNoValues, OfCommand, Reads, name_of, plain_word, request_values};
+ghost use Rattle.arguments.specs.declared.name.CommandName.TheVariants as name;
 
-use crate::name::{CommandName, NAMES};
+use crate::Request;
+use crate::name::NAMES;
 use crate::options::only_word;
 use grammar::find_keyword;
 
@@ -22,18 +24,21 @@ pub(crate) fn plain_word(word: &[u8]) -> &[u8]
 }
 
 /// Reads the argument after `help`, the name of a command, or none.
-pub(crate) fn read_command(words: &[String]) -> Option<Option<CommandName>>
-    ensures found { IfSome result (NameCommand (map string_bytes words.now)) }
+pub(crate) fn read_command(words: &[String]) -> Option<Request>
+    ensures found { IfSome result (λ request. (name_of request ≡ name.Help)
+        × Reads OfCommand (map string_bytes words.now) (request_values request)) }
     ensures none { IfNone result (HasNoValues OfCommand (map string_bytes words.now)) }
 {
     if words.is_empty() {
-        return Some(None);
+        return Some(Request::Help { command: None });
     }
     let Some(word) = only_word(words) else {
         return None;
     };
     match find_keyword(&NAMES, word) {
-        Some(name) => Some(Some(name)),
+        Some(name) => Some(Request::Help {
+            command: Some(name),
+        }),
         None => None,
     }
 }

@@ -1,15 +1,16 @@
-ghost use Rattle.std.specs.Prelude.{◌≡◌, ◌≢◌, ℕ, Bool, List, ◌∷◌, codes, map, string_bytes, Some, IfSome, IfNone};
+ghost use Rattle.std.specs.Prelude.{◌≡◌, ◌≢◌, ℕ, Bool, List, ◌∷◌, codes, map, string_bytes, IfSome, IfNone};
 ghost use Rattle.arguments.specs.Options.{HasRule, IsAfterColouring, IsAfterGrouping, IsFileOptions, IsListingOptions, IsNet, IsOpeningOptions, IsPeersOption};
-ghost use Rattle.arguments.specs.Table.{HasNoValues, Keyed, Network, Opening, Records};
+ghost use Rattle.arguments.specs.Table.{HasNoValues, Keyed, Network, Opening, Reads, Records, name_of, request_values};
 ghost use Rattle.arguments.specs.declared.colours.Colours.{Colours};
 ghost use Rattle.arguments.specs.declared.file_kind.FileKind.{FileKind};
 ghost use Rattle.arguments.specs.declared.grouping.Grouping.{Grouping};
+ghost use Rattle.arguments.specs.declared.name.CommandName.TheVariants as name;
 ghost use Rattle.placing.specs.declared.sum.SumRule.TheVariants.{Bytes};
 
 use crate::colours::read_colours;
 use crate::grouping::read_after_grouping;
 use crate::options::{after_flag, read_after_peers, read_listing, read_net, read_opening};
-use crate::{Colours, Grouping};
+use crate::{Colours, Grouping, Request};
 use peers_file::Chain;
 use placing::SumRule;
 
@@ -80,16 +81,16 @@ pub(crate) fn read_listing_kind(words: &[String]) -> Option<(bool, FileKind)>
 
 /// Reads the arguments after `from-raw`: `--core`, and after it those that choose a key, which is
 /// not left out, and a chain.
-pub(crate) fn read_keyed_kind(words: &[String]) -> Option<([u8; 32], FileKind)>
-    ensures found { IfSome result (λ o.
-        IsFileOptions (IsOpeningOptions (Some o.0)) (map string_bytes words.now) o.1) }
+pub(crate) fn read_keyed_kind(words: &[String]) -> Option<Request>
+    ensures found { IfSome result (λ request. (name_of request ≡ name.FromRaw)
+        × Reads Keyed (map string_bytes words.now) (request_values request)) }
     ensures none { IfNone result (HasNoValues Keyed (map string_bytes words.now)) }
 {
     let Some((key, kind)) = read_opening_kind(words) else {
         return None;
     };
     match key {
-        Some(key) => Some((key, kind)),
+        Some(key) => Some(Request::FromRaw { key, kind }),
         None => None,
     }
 }

@@ -76,10 +76,7 @@ fn read_after(alloc: Global, name: CommandName, rest: &[String]) -> Option<Reque
         CommandName::Lookup => read_lookup(alloc, rest),
         CommandName::Address => read_addresses(rest),
         CommandName::Show => read_show(rest),
-        CommandName::Picture => {
-            let (colours, from) = read_picture(rest)?;
-            Some(Request::Picture { colours, from })
-        }
+        CommandName::Picture => read_picture(rest),
         CommandName::Raw => Some(Request::Raw {
             kind: read_file_kind(rest)?,
         }),
@@ -89,27 +86,10 @@ fn read_after(alloc: Global, name: CommandName, rest: &[String]) -> Option<Reque
         CommandName::Groups => Some(Request::Groups {
             from: read_tables(rest)?,
         }),
-        CommandName::Risk => {
-            let (by, from) = read_risk(rest)?;
-            Some(Request::Risk { by, from })
-        }
-        CommandName::FromRaw => {
-            let (key, kind) = read_keyed_kind(rest)?;
-            Some(Request::FromRaw { key, kind })
-        }
-        CommandName::Ban => {
-            let (rule, subnet, now, until) = read_period(rest)?;
-            Some(Request::Ban {
-                rule,
-                subnet,
-                now,
-                until,
-            })
-        }
-        CommandName::Unban => {
-            let (rule, subnet) = read_subnet(rest)?;
-            Some(Request::Unban { rule, subnet })
-        }
+        CommandName::Risk => read_risk(rest),
+        CommandName::FromRaw => read_keyed_kind(rest),
+        CommandName::Ban => read_period(rest),
+        CommandName::Unban => read_subnet(rest),
         CommandName::Banned => {
             let (rule, (peer, (now, ()))) = read_for_bans::<(OnePeer, (Time, ()))>(alloc, 2, rest)?;
             Some(Request::Banned { rule, peer, now })
@@ -126,9 +106,7 @@ fn read_after(alloc: Global, name: CommandName, rest: &[String]) -> Option<Reque
             let (start, (lines, ())) = read_values::<Load>(alloc, rest)?;
             Some(Request::Trial { start, lines })
         }
-        CommandName::Help => Some(Request::Help {
-            command: read_command(rest)?,
-        }),
+        CommandName::Help => read_command(rest),
         CommandName::Version => only_name(rest, Request::Version),
     }
 }

@@ -1,7 +1,8 @@
 ghost use Rattle.std.specs.Prelude.{◌≡◌, ℕ, List, true, false, map, string_bytes, IfSome, IfNone};
-ghost use Rattle.arguments.specs.Options.{HasOneInput, IsAfterColouring, IsNet, IsRaw, IsRiskOptions, IsTables};
-ghost use Rattle.arguments.specs.Table.{Coloured, Grouped, HasNoValues, Tables};
+ghost use Rattle.arguments.specs.Options.{HasOneInput, IsNet, IsRaw, IsTables};
+ghost use Rattle.arguments.specs.Table.{Coloured, Grouped, HasNoValues, Reads, Tables, name_of, request_values};
 ghost use Rattle.arguments.specs.declared.grouping.Grouping.TheVariants.{Sets};
+ghost use Rattle.arguments.specs.declared.name.CommandName.TheVariants as name;
 ghost use Rattle.arguments.specs.declared.tables_from.TablesFrom.TheVariants as from;
 ghost use Rattle.peers_file.specs.declared.chain.Chain.{Chain};
 
@@ -9,7 +10,7 @@ use crate::colours::read_colours;
 use crate::file_kind::{read_colours_kind, read_file_kind, read_grouping_kind};
 use crate::grouping::read_after_grouping;
 use crate::options::{cut_option, read_net};
-use crate::{Colours, FileKind, Grouping};
+use crate::{FileKind, Grouping, Request};
 use peers_file::Chain;
 
 /// Where the tables come from that a command looks at.
@@ -57,19 +58,25 @@ pub(crate) fn read_tables(words: &[String]) -> Option<TablesFrom>
 
 /// Reads the arguments after `picture`: `--raw -` or `--core` or none of them, and after it what the
 /// colours show, and the arguments that choose a chain.
-pub(crate) fn read_picture(words: &[String]) -> Option<(Colours, TablesFrom)>
-    ensures found { IfSome result (λ o.
-        IsTables (IsAfterColouring o.0) (map string_bytes words.now) o.1) }
+pub(crate) fn read_picture(words: &[String]) -> Option<Request>
+    ensures found { IfSome result (λ request. (name_of request ≡ name.Picture)
+        × Reads Coloured (map string_bytes words.now) (request_values request)) }
     ensures none { IfNone result (HasNoValues Coloured (map string_bytes words.now)) }
 {
     if let Some(rest) = after_raw(words) {
         return match read_colours(rest) {
-            Some((colours, chain)) => Some((colours, TablesFrom::Listing { chain })),
+            Some((colours, chain)) => Some(Request::Picture {
+                colours,
+                from: TablesFrom::Listing { chain },
+            }),
             None => None,
         };
     }
     match read_colours_kind(words) {
-        Some((colours, kind)) => Some((colours, TablesFrom::File { kind })),
+        Some((colours, kind)) => Some(Request::Picture {
+            colours,
+            from: TablesFrom::File { kind },
+        }),
         None => None,
     }
 }
@@ -90,8 +97,9 @@ fn reads_names(by: Grouping) -> bool
 /// Reads the arguments after `risk`: `--raw -` or `--core` or none of them, and after it what makes
 /// records one group, and the arguments that choose a chain. Standard input has not both a listing
 /// and the lines of `risk -`.
-pub(crate) fn read_risk(words: &[String]) -> Option<(Grouping, TablesFrom)>
-    ensures found { IfSome result (λ o. IsRiskOptions o.0 (map string_bytes words.now) o.1) }
+pub(crate) fn read_risk(words: &[String]) -> Option<Request>
+    ensures found { IfSome result (λ request. (name_of request ≡ name.Risk)
+        × Reads Grouped (map string_bytes words.now) (request_values request)) }
     ensures none { IfNone result (HasNoValues Grouped (map string_bytes words.now)) }
 {
     if let Some(rest) = after_raw(words) {
@@ -101,10 +109,16 @@ pub(crate) fn read_risk(words: &[String]) -> Option<(Grouping, TablesFrom)>
         if reads_names(by) {
             return None;
         }
-        return Some((by, TablesFrom::Listing { chain }));
+        return Some(Request::Risk {
+            by,
+            from: TablesFrom::Listing { chain },
+        });
     }
     match read_grouping_kind(words) {
-        Some((by, kind)) => Some((by, TablesFrom::File { kind })),
+        Some((by, kind)) => Some(Request::Risk {
+            by,
+            from: TablesFrom::File { kind },
+        }),
         None => None,
     }
 }

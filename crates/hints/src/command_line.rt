@@ -84,7 +84,7 @@ fn picture_hint(alloc: Global, form: &'static str, words: &[String]) -> Result<S
     let Some(index) = mark_index(words) else {
         return explain_options(alloc, form, words);
     };
-    let (options, marked) = words.split_at(index);
+    let options = words.get(..index).unwrap_or(words);
     if let Some(text) = wrong_option(alloc, form, options)? {
         return Ok(text);
     }
@@ -94,7 +94,7 @@ fn picture_hint(alloc: Global, form: &'static str, words: &[String]) -> Result<S
             "--mark: not beside --by, since colours have one meaning",
         );
     }
-    let sets = marked.get(1..).unwrap_or(&[]);
+    let sets = words.get(index.saturating_add(1)..).unwrap_or(&[]);
     if sets.is_empty() {
         return format!(in alloc; "--mark: expected {SET}");
     }

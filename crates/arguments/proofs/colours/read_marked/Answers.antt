@@ -1,4 +1,4 @@
-use Rattle.std.proofs.Common.{codes, inl, inr, refl, sym, subst}
+use Rattle.std.proofs.Common.{inl, refl}
 use Rattle.arguments.proofs.Marking.{found_after, no_chain_first, only_one}
 use Rattle.arguments.proofs.colours.read_marked.Goals as goal
 

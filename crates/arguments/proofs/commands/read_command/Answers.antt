@@ -1,4 +1,4 @@
-use Rattle.std.proofs.Common.{length, string_bytes, ap, sym, ◌∙◌, arith}
+use Rattle.std.proofs.Common.{length, string_bytes, ap, refl, sym, ◌∙◌, arith}
 use Rattle.std.proofs.lemmas.Bool.{eqb-false}
 use Rattle.std.proofs.lemmas.List.{length-map}
 use Rattle.arguments.proofs.Names.{found_command, no_command, no_commands, word_found}
@@ -12,7 +12,7 @@ returns-in_default-clause-none c =
 
 pub returns-in-Some-find_keyword-clause-found : goal.returns-in-Some-find_keyword-clause-found
 returns-in-Some-find_keyword-clause-found c =
-    found_command _ _ _ c.in-Some.ensures.some (word_found _ _ _ c.find_keyword.ensures c.in-Some-find_keyword.is)
+    (refl, (_, refl, found_command _ _ _ c.in-Some.ensures.some (word_found _ _ _ c.find_keyword.ensures c.in-Some-find_keyword.is)))
 
 pub returns-in-None-clause-none : goal.returns-in-None-clause-none
 returns-in-None-clause-none c = no_command _ _ _ c.in-Some.ensures.some c.find_keyword.ensures c.in-None.is

@@ -1,4 +1,4 @@
-use Rattle.std.proofs.Common.{map, string_bytes, length, ap, sym, subst, ◌∙◌, arith}
+use Rattle.std.proofs.Common.{map, string_bytes, sym, subst, ◌∙◌, arith}
 use Rattle.std.proofs.lemmas.List.{length-map, length-set}
 use Rattle.risk_parts.specs.Sets.{IsSetText}
 use Rattle.arguments.proofs.Marking.{each_text, few_texts, next_set, text_at}
