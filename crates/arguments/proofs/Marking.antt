@@ -1,12 +1,12 @@
 -- The sets after `--mark`, and the chain before it.
-use Rattle.std.proofs.Common.{◌≡◌, ◌≢◌, ℕ, ◌≤◌, ◌<◌, List, [], ◌∷◌, ◌++◌, codes, set, length, drop, get_or, decimal, Option, Some, None, inl, inr, refl, sym, ap, subst, ◌∙◌, arith}
+use Rattle.std.proofs.Common.{◌≡◌, ◌≢◌, ℕ, zero, suc, ◌+◌, ◌≤◌, ◌<◌, List, [], ◌∷◌, ◌++◌, codes, map, set, take, length, drop, get_or, decimal, Option, Some, None, inl, inr, refl, sym, ap, subst, ◌∙◌, arith}
 use Rattle.std.proofs.lemmas.Fmt.{decimal_injective}
-use Rattle.std.proofs.lemmas.List.{append_cancel_left}
+use Rattle.std.proofs.lemmas.List.{append_cancel_left, length-map, length-take-le, take_more}
 use Rattle.ban_list.proofs.Named.{one_subnet_by}
 use Rattle.ban_list.specs.Subnet.{IsProper}
 use Rattle.ban_list.specs.SubnetText.{IsSubnetTextBy}
-use Rattle.ban_list.specs.declared.rule.BanRule.{BanRule}
-use Rattle.ban_list.specs.declared.rule.BanRule.TheVariants.{Labels}
+use Rattle.ban_list.specs.declared.ban.BanRule.{BanRule}
+use Rattle.ban_list.specs.declared.ban.BanRule.TheVariants.{Labels}
 use Rattle.ban_list.specs.declared.subnet.Subnet.{Subnet}
 use Rattle.peers_file.specs.declared.chain.Chain.{Chain}
 use Rattle.peers_file.specs.declared.chain.Chain.TheVariants.{Main}
@@ -68,6 +68,19 @@ one_more (first ∷ texts) text x (Some y ∷ sets) zero is below means h = absu
 one_more (first ∷ texts) text x (Some y ∷ sets) (suc n) is below means h =
     (h.0, one_more texts text x sets n (omega (arith, is)) (omega (arith, below)) means h.1)
 
+-- the text of an index
+pub text_at : {X : Type 0} (f : X → List ℕ) (xs : List X) (n : ℕ) (x : X) → n < length xs → x ≡ get_or xs n x → get_or (map f xs) n [] ≡ f x
+text_at f [] n x below is = absurd (omega (arith, below))
+text_at f (y ∷ xs) zero x below is = ap f (sym is)
+text_at f (y ∷ xs) (suc n) x below is = text_at f xs n x (omega (arith, below)) is
+
+pub next_set : {X : Type 0} (f : X → List ℕ) (xs : List X) (n : ℕ) (x : X) (set_read : AddrSet) (sets : List (Option AddrSet)) → n < length xs → x ≡ get_or xs n x → n < length sets
+    → IsSetText (f x) set_read → AreMarks (take n (map f xs)) sets → AreMarks (take (n + 1) (map f xs)) (set sets n (Some set_read))
+next_set f xs n x set_read sets below is within means are =
+    let long : n < length (map f xs) = omega (arith, below, length-map xs f) in
+    let more : take (n + 1) (map f xs) ≡ take n (map f xs) ++ f x ∷ [] = take_more (map f xs) n [] long ∙ ap (λ t. take n (map f xs) ++ t ∷ []) (text_at f xs n x below is) in
+    subst (λ ts. AreMarks ts (set sets n (Some set_read))) (sym more) (one_more (take n (map f xs)) (f x) set_read sets n (sym (length-take-le n (map f xs) (omega (arith, long)))) within means are)
+
 -- each text is that of a set
 pub each_text : (texts : List (List ℕ)) (sets : List (Option AddrSet)) (n : ℕ) → n < length texts → AreMarks texts sets → (x : AddrSet) × IsSetText (get_or texts n []) x
 each_text [] sets n below h = absurd (omega (arith, below))
@@ -75,6 +88,11 @@ each_text (text ∷ texts) [] n below h = absurd h
 each_text (text ∷ texts) (None ∷ sets) n below h = absurd h
 each_text (text ∷ texts) (Some x ∷ sets) zero below h = (x, h.0)
 each_text (text ∷ texts) (Some x ∷ sets) (suc n) below h = each_text texts sets n (omega (arith, below)) h.1
+
+-- no texts are none
+pub no_texts : (texts : List (List ℕ)) → length texts ≡ 0 → texts ≡ []
+no_texts [] is = refl
+no_texts (text ∷ texts) is = absurd (omega (arith, is))
 
 -- and proper
 module _ (law : (rule : BanRule) (text : List ℕ) (s : Subnet) → IsSubnetTextBy rule text s → IsProper s) where
@@ -123,6 +141,45 @@ one_marked words x y a b (texts, marks, inr has) (others, more, inl (same, too))
 one_marked words x y a b (texts, marks, inr has) (others, more, inr too) =
     let same = one_has_chain words (codes "--mark" ∷ texts) (codes "--mark" ∷ others) a b has too in
     (one_marks others x y (subst (λ ts. IsMarks ts x) (ap (drop 1) same.1) marks) more, same.0)
+
+-- what is read of words with `--mark`
+pub only_one : (words : List (List ℕ)) (x : Marks) (a : Chain) → IsMarked x words a → (y : Marks) (b : Chain) → IsMarked y words b → ◌≡◌ {A = Option (Marks × Chain)} (Some (x, a)) (Some (y, b))
+only_one words x a marked y b also =
+    let same = one_marked words x y a b marked also in
+    λ i. Some (same.0 i, same.1 i)
+
+-- of words that begin with it
+pub no_sets_first : (words texts : List (List ℕ)) → words ≡ codes "--mark" ∷ texts → ((x : Marks) → IsMarks texts x → ⊥) → (x : Marks) (chain : Chain) → IsMarked x words chain → ⊥
+no_sets_first words texts first none x chain (others, means, inl (is, main)) = none x (subst (λ ts. IsMarks ts x) (ap (drop 1) (sym is ∙ first)) means)
+no_sets_first words texts first none x chain (others, means, inr has) = mark_or_chain texts words (codes "--mark" ∷ others) chain first has
+
+-- and of those that do not
+module _ (words : List (List ℕ)) (not_first : (texts : List (List ℕ)) → words ≡ codes "--mark" ∷ texts → ⊥) where
+  pub no_chain_first : ((chain : Chain) (rest : List (List ℕ)) → HasChain chain rest words → ⊥) → (x : Marks) (chain : Chain) → IsMarked x words chain → ⊥
+  no_chain_first none x chain (texts, means, inl (is, main)) = not_first texts is
+  no_chain_first none x chain (texts, means, inr has) = none chain (codes "--mark" ∷ texts) has
+
+  pub no_mark_after : (rest : List (List ℕ)) (first : Chain) → HasChain first rest words → ((texts : List (List ℕ)) → rest ≡ codes "--mark" ∷ texts → ⊥)
+      → (x : Marks) (chain : Chain) → IsMarked x words chain → ⊥
+  no_mark_after rest first begins off x chain (texts, means, inl (is, main)) = not_first texts is
+  no_mark_after rest first begins off x chain (texts, means, inr has) = off texts (one_has_chain words rest (codes "--mark" ∷ texts) first chain begins has).1
+
+  pub no_sets_after : (rest texts : List (List ℕ)) (first : Chain) → HasChain first rest words → rest ≡ codes "--mark" ∷ texts → ((x : Marks) → IsMarks texts x → ⊥)
+      → (x : Marks) (chain : Chain) → IsMarked x words chain → ⊥
+  no_sets_after rest texts first begins after none x chain (others, means, inl (is, main)) = not_first others is
+  no_sets_after rest texts first begins after none x chain (others, means, inr has) =
+      let same = one_has_chain words (codes "--mark" ∷ others) rest chain first has begins in
+      none x (subst (λ ts. IsMarks ts x) (ap (drop 1) (same.1 ∙ after)) means)
+
+pub found_after : (words rest texts : List (List ℕ)) (x : Marks) (chain : Chain) → HasChain chain rest words → rest ≡ codes "--mark" ∷ texts → IsMarks texts x → IsMarked x words chain
+found_after words rest texts x chain begins after means = (texts, means, inr (subst (λ ts. HasChain chain ts words) after begins))
+
+-- nothing is a chain whose value is none
+pub no_value : (words rest : List (List ℕ)) (by : ChainOption) (value : List ℕ) → Begins (chain_option by) value rest words → ((chain : Chain) → IsChainValue by value chain → ⊥)
+    → (chain : Chain) (left : List (List ℕ)) → HasChain chain left words → ⊥
+no_value words rest by value begins none chain left (other, next, means, start) =
+    let same = same_chain other by next value left rest words start begins in
+    none chain (subst (λ v. IsChainValue by v chain) same.1 (subst (λ o. IsChainValue o next chain) same.0 means))
 
 -- the third byte tells these arguments from others
 pub third_of_marked : (marks : Marks) (words : List (List ℕ)) (chain : Chain) → IsMarked marks words chain → (109 ≤ third_byte words) × (third_byte words ≤ 110)

@@ -18,8 +18,12 @@ pub struct Marks {
 pub(crate) fn read_marks(words: &[String]) -> Option<Marks>
     ensures found { IfSome result (λ marks. IsMarks (map string_bytes words.now) marks) }
     ensures none { IfNone result ((marks : Marks) → ¬ IsMarks (map string_bytes words.now) marks) }
+    ensures limit { MAX_MARKS ≡ 6 }
 {
-    if words.is_empty() || words.len() > MAX_MARKS {
+    if words.is_empty() {
+        return None;
+    }
+    if words.len() > MAX_MARKS {
         return None;
     }
     let mut sets = [None; MAX_MARKS];

@@ -1,4 +1,4 @@
-ghost use Rattle.std.specs.Prelude.{◌≡◌, ℕ, List, false, map, string_bytes, IfSome, IfNone, IsTrue};
+ghost use Rattle.std.specs.Prelude.{◌≡◌, ℕ, List, true, false, map, string_bytes, IfSome, IfNone};
 ghost use Rattle.arguments.specs.Options.{HasOneInput, IsAfterColouring, IsNet, IsRaw, IsRiskOptions, IsTables};
 ghost use Rattle.arguments.specs.Table.{Coloured, Grouped, HasNoValues, Tables};
 ghost use Rattle.arguments.specs.declared.grouping.Grouping.TheVariants.{Sets};
@@ -76,7 +76,7 @@ pub(crate) fn read_picture(words: &[String]) -> Option<(Colours, TablesFrom)>
 
 /// Returns `true` if the groups are named in standard input.
 fn reads_names(by: Grouping) -> bool
-    ensures yes { IsTrue result → by ≡ Sets }
+    ensures yes { result ≡ true → by ≡ Sets }
     ensures no_other { result ≡ false → (chain : Chain) → HasOneInput by (from.Listing chain) }
 {
     match by {
