@@ -13,7 +13,7 @@ use Rattle.raw_file.specs.Input.{IsInput}
 use Rattle.raw_file.specs.declared.fault.ListingFault.{ListingFault}
 use Rattle.raw_file.specs.declared.fault.ListingFault.TheVariants as fault
 use Rattle.raw_read.specs.Raw.{HasMemberFault}
-use Rattle.raw_read.specs.declared.fault.RawFault.TheVariants as raw
+use Rattle.raw_read.specs.declared.raw.RawFault.TheVariants as raw
 use Rattle.raw_read.specs.declared.read.TheConstants.{MAX_TEXT}
 use Rattle.save_store.specs.Saves.{PublishesOrNot}
 use Rattle.addrman_run.specs.Asmaps.{IsNoMap}
@@ -43,8 +43,9 @@ new_peers key kind past before after sum text file line of_map input is = (
     has_map = of_map.1;
     listing = subst (λ s. IsListing key s text is.0) of_map.2 is.1;
     whole = is.2;
+    reads = is.3;
   },
-  is.3,
+  is.4,
 )
 
 -- EVERY MOMENT

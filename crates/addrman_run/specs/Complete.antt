@@ -23,7 +23,7 @@ use Rattle.opener_lines.specs.declared.command.OpenerCommand as opener
 use Rattle.raw_file.specs.Listing.{first_fault}
 use Rattle.raw_read.specs.Raw.{IsRaw}
 use Rattle.raw_read.specs.declared.read.TheConstants.{MAX_TEXT}
-use Rattle.raw_read.specs.declared.row.Raw as rows
+use Rattle.raw_read.specs.declared.raw.Raw as rows
 use Rattle.risk_parts.specs.Sets.{IsSetText}
 use Rattle.risk_parts.specs.declared.addr_set.AddrSet.{AddrSet}
 use Rattle.session.specs.History.{failed}

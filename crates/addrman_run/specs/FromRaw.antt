@@ -11,6 +11,7 @@ use Rattle.host_io.specs.Writing.{Appended, AppendedPart}
 use Rattle.host_io.specs.declared.name.Name.{Name}
 use Rattle.host_io.specs.declared.name.Name.TheVariants as name
 use Rattle.peer_rec.specs.Snapshot.{Snapshot}
+use Rattle.peers_file.specs.Layout.{IsFile}
 use Rattle.peers_file.specs.Texts.{file_text}
 use Rattle.placing.specs.Places.{sum_by}
 use Rattle.raw_file.specs.Faults.{HasListingFault, IsListing}
@@ -37,7 +38,8 @@ from_raw_text snap file =
     ++ codes " peers.dat " ++ decimal (length file) ++ codes " bytes\n"
 
 -- The input was the text of a listing, and all of it was read. The snapshot is that of the listing
--- under the key, with the checksum of the folder's asmap, and this is the file of it.
+-- under the key, with the checksum of the folder's asmap, and this is the file of it, which reads
+-- back as that.
 pub record IsNewPeers (key : List ℕ) (kind : FileKind) (past : Option Past)
     (before after : Option (List ℕ)) (snap : Snapshot) (file : List ℕ) : Type 0 where
   pub text : List ℕ
@@ -46,6 +48,7 @@ pub record IsNewPeers (key : List ℕ) (kind : FileKind) (past : Option Past)
   pub has_map : IsMapIn past map
   pub listing : IsListing key (sum_by kind.rule map) text snap
   pub whole : file ≡ file_text kind.chain snap
+  pub reads : IsFile kind.chain file snap
 
 -- why the input is refused: it is too long, or all of it was read and has this first fault
 abbrev pub RefusesListing : Option (List ℕ) → Option (List ℕ) → ListingFault → Type 0

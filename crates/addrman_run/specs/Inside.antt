@@ -290,7 +290,7 @@ IsNoInput before after other = ⊥
 abbrev pub IsListedFile : List ℕ → List ℕ → Chain → List ℕ → List ℕ → List ℕ → Type 0
 IsListedFile key sum chain text file line =
     (snap : Snapshot) × IsListing key sum text snap × (file ≡ file_text chain snap)
-    × (line ≡ from_raw_text snap file)
+    × IsFile chain file snap × (line ≡ from_raw_text snap file)
 
 -- why the text of a listing gives no file
 abbrev pub IsNotListed : List ℕ → Status → Type 0

@@ -53,7 +53,8 @@ use std::hash::BuildHasher;
 /// `raw --net CHAIN` prints its records by their slots, `info --net CHAIN` how many each network
 /// has, and `groups --net CHAIN` how many each group. `risk source --net CHAIN` writes which part
 /// of the picks falls to each source group, at most; `risk peer` and `risk network` do so for other
-/// groups, and `risk -` for the sets of addresses that the lines of the log name. `ban SUBNET NOW
+/// groups, and `risk -` for the sets of addresses that the lines of the log name. `from-raw --key
+/// HEX64 --net CHAIN` makes peers.dat of the log, what `raw` printed of tables. `ban SUBNET NOW
 /// UNTIL` and `unban SUBNET` change the list of bans in banlist.json, `banned PEER NOW` writes
 /// which ban covers the peer's address, and `bans NOW` the bans that are not over, as JSON; after
 /// `--core` all four read and write banlist.json as Bitcoin Core does. `gen START LINES` writes a

@@ -1,19 +1,18 @@
 -- No two records of a listing have one peer, and each row's peer has a record.
-use Rattle.std.proofs.Common.{◌≡◌, ◌++◌, ◌∷◌, ◌∙◌, ◌+◌, ◌&&◌, ◌||◌, Bool, Contains, List, None, Option, Some, [], ap, cond, false, if◌then◌else◌, inl, inr, map, refl, subst, sym, true, ℕ, ◌⊎◌, arith, suc}
+use Rattle.std.proofs.Common.{◌≡◌, ◌++◌, ◌∷◌, ◌+◌, ◌&&◌, ◌||◌, Bool, Contains, List, None, Option, Some, [], cond, false, if◌then◌else◌, inl, inr, refl, subst, sym, true, ℕ, arith, suc}
 use Rattle.std.specs.Prelude.{fold, ⊤}
 use Rattle.std.specs.List.{list_any}
-use Rattle.std.proofs.lemmas.Bool.{and_parts, both_ways, or_parts}
+use Rattle.std.proofs.lemmas.Bool.{and_parts, both_ways}
 use Rattle.std.proofs.lemmas.List.{append_assoc, append-nil, map-append}
 use Rattle.std.proofs.lemmas.List.Elements.{Contains-append_left, Contains-push}
-use Rattle.std.proofs.lemmas.List.Folds.{Any-from_list_any, list_any-append, list_any-from_Any}
 use Rattle.net_addr.specs.Ranges.{is_valid}
 use Rattle.net_addr.specs.Same.{same_peer, same_peer-Decides}
 use Rattle.net_addr.specs.declared.peer.Peer.{Peer}
 use Rattle.peer_rec.specs.declared.file_rec.FileRec.{FileRec}
-use Rattle.raw_read.specs.declared.row.Raw.{Raw}
-use Rattle.raw_read.specs.declared.row.RawRow.{RawRow}
-use Rattle.raw_read.specs.declared.row.RawTable.TheVariants.{New, Tried}
-use Rattle.raw_file.specs.Listing.{again_at, first_again, first_fault, first_twice, firsts, new_recs, or_else, peers_of, recs_of, with_rec}
+use Rattle.raw_read.specs.declared.raw.Raw.{Raw}
+use Rattle.raw_read.specs.declared.raw.RawRow.{RawRow}
+use Rattle.raw_read.specs.declared.raw.RawTable.TheVariants.{New, Tried}
+use Rattle.raw_file.specs.Listing.{again_at, first_again, first_fault, first_twice, new_recs, or_else, peers_of, recs_of, with_rec}
 use Rattle.table_machine.specs.Restoring.{duplicate_from, is_repeated}
 use Rattle.table_machine.proofs.Lists.{Contains-cases}
 

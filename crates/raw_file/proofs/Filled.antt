@@ -1,5 +1,5 @@
 -- The buckets that records of a file get.
-use Rattle.std.proofs.Common.{◌≡◌, ◌≢◌, is_some, ◌∷◌, ◌∙◌, ◌==◌, ◌||◌, ◌<◌, ◌++◌, Bool, Contains, List, None, Option, Some, [], All, ap, arith, false, if◌then◌else◌, inl, inr, length, map, not, refl, subst, sym, true, ℕ, suc, ◌⊎◌}
+use Rattle.std.proofs.Common.{◌≡◌, ◌≢◌, is_some, ◌∷◌, ◌∙◌, ◌==◌, ◌||◌, ◌<◌, Bool, Contains, List, None, Option, Some, [], All, ap, arith, false, if◌then◌else◌, inl, inr, length, map, not, refl, subst, sym, true, ℕ, suc, ◌⊎◌}
 use Rattle.std.specs.Prelude.{find, slice_get, unwrap_or}
 use Rattle.std.specs.List.{list_any, position_or_len, range_with_len}
 use Rattle.std.proofs.lemmas.List.Elements.{Contains-push_cases}
@@ -17,8 +17,8 @@ use Rattle.peer_rec.specs.declared.place.Place.TheVariants.{New, Tried}
 use Rattle.peer_rec.specs.declared.rec.Rec.{Rec}
 use Rattle.placing.specs.Places.{Places, new_bucket, new_slot, sum_of}
 use Rattle.raw_read.specs.Raw.{IsRaw}
-use Rattle.raw_read.specs.declared.row.Raw.{Raw}
-use Rattle.raw_read.specs.declared.row.RawRow.{RawRow}
+use Rattle.raw_read.specs.declared.raw.Raw.{Raw}
+use Rattle.raw_read.specs.declared.raw.RawRow.{RawRow}
 use Rattle.raw_file.specs.Listing.{first_fault, index_of, new_recs, pair_of, peers_of, recs_of}
 use Rattle.raw_file.specs.Opening.{ListsIn, OpensListing, listing_file}
 use Rattle.raw_file.proofs.Distinct.{HasPeer, has-first, no_duplicate}
@@ -221,9 +221,12 @@ module _ (raw : Raw) (places : Places) (keeps : KeepsAtOpening (listing_file raw
   lists q c bucket own listed =
       let row = row_of (pair_of (new_recs raw)) raw.new (bucket, q.number) listed in
       elim (keeps.only q c) [
-        | inl of_new ↦
-            (row.0, row.1, ap (λ p. p.0) row.2,
-            at_index (new_recs raw) row.0.rec.peer of_new.0 q.number (has_rec row.0 row.1) (ap (λ p. p.1) row.2) of_new.1 ∙ sym (ap (λ (r : Rec). r.peer) of_new.2))
+        | inl of_new ↦ (
+          row.0,
+          row.1,
+          ap (λ p. p.0) row.2,
+          at_index (new_recs raw) row.0.rec.peer of_new.0 q.number (has_rec row.0 row.1) (ap (λ p. p.1) row.2) of_new.1 ∙ sym (ap (λ (r : Rec). r.peer) of_new.2),
+        )
         | inr of_tried ↦ absurd (none_in_nil bucket (subst (λ bs. Contains bs bucket) (ap buckets_of of_tried.2) own))
       ]
     where

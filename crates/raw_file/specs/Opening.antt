@@ -5,8 +5,8 @@ use Rattle.peer_rec.specs.Rec.{buckets_of}
 use Rattle.peer_rec.specs.Snapshot.{Snapshot}
 use Rattle.peer_rec.specs.declared.rec.Rec.{Rec}
 use Rattle.placing.specs.Places.{Places, new_bucket, sum_of}
-use Rattle.raw_read.specs.declared.row.Raw.{Raw}
-use Rattle.raw_read.specs.declared.row.RawRow.{RawRow}
+use Rattle.raw_read.specs.declared.raw.Raw.{Raw}
+use Rattle.raw_read.specs.declared.raw.RawRow.{RawRow}
 use Rattle.raw_file.specs.Listing.{snapshot_of}
 use Rattle.table_laws.specs.Openings.{KeepsAtOpening}
 use Rattle.table_machine.specs.Restoring.{duplicate, restored, uses_buckets}

@@ -3,7 +3,7 @@ ghost use Rattle.placing.specs.Places.{Places};
 ghost use Rattle.raw_file.specs.Listing.{first_fault};
 ghost use Rattle.raw_file.specs.Opening.{OpensListing};
 ghost use Rattle.raw_read.specs.Raw.{IsRaw};
-ghost use Rattle.raw_read.specs.declared.row.Raw.{Raw};
+ghost use Rattle.raw_read.specs.declared.raw.Raw.{Raw};
 
 use table_laws::openings_lose_with_causes;
 
