@@ -419,9 +419,9 @@ class Run:
             raise Stop(11, "no peers.dat and no key")
         return Tables(key, asmap, kind.core)
 
-    def listing(self) -> dict:
-        """The slots of the listing that standard input has."""
-        data = b""
+    def input(self) -> bytes:
+        """All of standard input, or one byte more than a listing has at most."""
+        data = bytearray()
         while len(data) <= raw_rows.MAXIMUM_BYTES:
             try:
                 piece = self.read()
@@ -430,16 +430,23 @@ class Run:
             if not piece:
                 break
             data += piece
-        return raw_rows.read_raw(data)
+        if len(data) > raw_rows.MAXIMUM_BYTES:
+            raise Stop(20, "listing refused: too-large")
+        return bytes(data)
+
+    def listed(self, make):
+        """What is made of a listing."""
+        try:
+            return make()
+        except Fault as fault:
+            raise Stop(20, f"listing refused: {fault}")
 
     def saved_tables(self, kind: FileKind) -> Tables:
-        """The tables of the folder's file of peers, or of a listing."""
+        """The tables of the folder's file of peers, or of the listing that standard input has, which is read first."""
+        listing = self.input() if kind.listed else b""
         asmap = self.asmap() or NO_ASMAP
         if kind.listed:
-            try:
-                return raw_rows.tables_of(self.listing(), asmap)
-            except Fault as fault:
-                raise Stop(20, f"listing refused: {fault}")
+            return self.listed(lambda: raw_rows.tables_of(raw_rows.read_raw(listing), asmap))
         return self.restored(self.needed(self.peers(kind.start), "peers.dat"), asmap, kind.core)
 
     def restored(self, file: peers_file.PeersFile, asmap: Asmap, core: bool) -> Tables:
@@ -494,10 +501,8 @@ class Run:
         if key is None:
             usage()
         asmap_sum = peers_file.asmap_sum_of(self.asmap() or NO_ASMAP, kind.core)
-        try:
-            file = raw_rows.file_of(self.listing(), key, asmap_sum)
-        except Fault as fault:
-            raise Stop(20, f"listing refused: {fault}")
+        listing = self.input()
+        file = self.listed(lambda: raw_rows.file_of(raw_rows.read_raw(listing), key, asmap_sum))
         data = peers_file.written(file, kind.start)
         self.put("peers.tmp", "peers.dat", data)
         self.print(f"new {len(file.new)} tried {len(file.tried)} peers.dat {len(data)} bytes")

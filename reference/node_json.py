@@ -99,19 +99,26 @@ def groups(tables: Tables) -> str:
     members: dict[bytes, list[Record]] = {}
     for record in records:
         members.setdefault(group(counted_address(record), tables.asmap), []).append(record)
+    buckets: dict[bytes, list[int]] = {}
+    for bucket, slots in tables.new.items():
+        for slot in slots:
+            record = tables.occupant(tables.new, bucket, slot)
+            if record is not None:
+                buckets.setdefault(group(record.source, tables.asmap), []).append(bucket)
 
     rows = []
     for own, of_group in members.items():
         first = counted_address(of_group[0])
         number = tables.asmap.number_of(first)
         new = [record for record in of_group if not record.tried]
-        slots = sum(len(record.buckets) for record in new)
+        held = buckets.get(own, [])
+        slots = len(held)
         tried = len(of_group) - len(new)
         rows.append((-slots - tried, own, {
             "group": group_name(first, number),
             **({"mapped_as": number} if number else {}),
             "new_slots": slots,
-            "new_buckets": len({bucket for record in new for bucket in record.buckets}),
+            "new_buckets": len(set(held)),
             "new_records": len(new),
             "tried_records": tried,
         }))
@@ -120,8 +127,8 @@ def groups(tables: Tables) -> str:
         "groups": [row for _, _, row in rows],
         "totals": {
             "groups": len(rows),
-            **{name: sum(row[name] for _, _, row in rows)
-               for name in ("new_slots", "new_records", "tried_records")},
+            "new_slots": sum(map(len, buckets.values())),
+            **{name: sum(row[name] for _, _, row in rows) for name in ("new_records", "tried_records")},
         },
         "asmap": health(tables, records),
     }, indent=2)

@@ -152,18 +152,32 @@ def file_of(rows: dict[str, list[tuple[int, int, Record]]], key: bytes, asmap_su
     return PeersFile(key, new, [record for _, _, record in rows["tried"]], buckets, asmap_sum)
 
 
-def tables_of(rows: dict[str, list[tuple[int, int, Record]]], asmap: Asmap) -> Tables:
-    """The tables that a listing names, with its records in its slots: no key counts."""
-    tables = Tables(bytes(32), asmap)
+class Listing(Tables):
+    """The tables that a listing names: each slot has the record of its own row."""
+
+    def __init__(self, asmap: Asmap):
+        super().__init__(bytes(32), asmap)
+        self.rows: dict[tuple[bool, int, int], Record] = {}
+
+    def occupant(self, table: dict[int, dict[int, int]], bucket: int, slot: int) -> Record | None:
+        return self.rows.get((table is self.new, bucket, slot))
+
+
+def tables_of(rows: dict[str, list[tuple[int, int, Record]]], asmap: Asmap) -> Listing:
+    """The tables that a listing names, with its records in its slots: no key counts. A peer of the new table is one
+    record, that of its first row."""
+    tables = Listing(asmap)
     for bucket, position, record in rows["new"]:
         known = tables.find(record.peer)
         if known is None:
             tables.append(record)
             known = record
         known.buckets.add(bucket)
+        tables.rows[True, bucket, position] = record
         tables.new.setdefault(bucket, {})[position] = known.number
     for bucket, position, record in rows["tried"]:
         record.tried = True
         tables.append(record)
+        tables.rows[False, bucket, position] = record
         tables.tried.setdefault(bucket, {})[position] = record.number
     return tables

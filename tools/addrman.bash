@@ -2,7 +2,7 @@
 
 _addrman() {
     local word=${COMP_WORDS[COMP_CWORD]} before=${COMP_WORDS[COMP_CWORD - 1]}
-    local commands="replay opener limit show picture raw info groups risk compile decompile diff check lookup address ban unban banned bans gen trial help version"
+    local commands="replay opener limit show picture raw info groups risk from-raw compile decompile diff check lookup address ban unban banned bans gen trial help version"
     local chains="main test testnet4 signet regtest"
     local at=1
     if [[ ${COMP_WORDS[1]} == -C || ${COMP_WORDS[1]} == --dir ]]; then
@@ -30,6 +30,10 @@ _addrman() {
         mapfile -t COMPREPLY < <(compgen -W "network source group age" -- "$word")
         return
     fi
+    if [[ $before == --raw ]]; then
+        mapfile -t COMPREPLY < <(compgen -W "-" -- "$word")
+        return
+    fi
     if [[ $before == --key-file || $before == --asmap || $before == --bans ]] ||
         [[ $before == --peers && ${COMP_WORDS[at]} != diff ]]; then
         mapfile -t COMPREPLY < <(compgen -f -- "$word")
@@ -46,13 +50,19 @@ _addrman() {
     case ${COMP_WORDS[at]} in
         replay | opener) mapfile -t COMPREPLY < <(compgen -W "--key --key-file --net --magic --core" -- "$word") ;;
         show) mapfile -t COMPREPLY < <(compgen -W "--net --magic --no-key --core --peers --anchors" -- "$word") ;;
+        from-raw)
+            mapfile -t COMPREPLY < <(compgen -W "--key --key-file --net --magic --core --asmap" -- "$word")
+            ;;
         risk)
-            mapfile -t COMPREPLY < <(compgen -W "source peer network - --net --magic --core --peers --asmap" -- "$word")
+            mapfile -t COMPREPLY < <(compgen -W "source peer network - --net --magic --core --raw --peers --asmap" -- "$word")
             ;;
         picture)
-            mapfile -t COMPREPLY < <(compgen -W "--by --net --magic --core --peers --asmap" -- "$word")
+            mapfile -t COMPREPLY < <(compgen -W "--by --net --magic --core --raw --mark --peers --asmap" -- "$word")
             ;;
-        raw | info | groups)
+        info | groups)
+            mapfile -t COMPREPLY < <(compgen -W "--net --magic --core --raw --peers --asmap" -- "$word")
+            ;;
+        raw)
             mapfile -t COMPREPLY < <(compgen -W "--net --magic --core --peers --asmap" -- "$word")
             ;;
         diff) mapfile -t COMPREPLY < <(compgen -W "--peers --net --magic --core --asmap" -- "$word") ;;

@@ -13,21 +13,28 @@ const KEY_DIGITS: usize = 64;
 const PIECE: usize = 80;
 
 /// The commands that take `--core`: those that read peers.dat or banlist.json.
-static CORE_COMMANDS: [&str; 13] = [
-    "replay", "opener", "show", "picture", "raw", "info", "groups", "risk", "diff", "ban", "unban",
-    "banned", "bans",
+static CORE_COMMANDS: [&str; 14] = [
+    "replay", "opener", "show", "picture", "raw", "info", "groups", "risk", "from-raw", "diff",
+    "ban", "unban", "banned", "bans",
 ];
+
+/// The commands that take `--raw -`.
+static RAW_COMMANDS: [&str; 4] = ["picture", "info", "groups", "risk"];
+
+/// The commands that take `--key-file FILE`.
+static KEY_COMMANDS: [&str; 3] = ["replay", "opener", "from-raw"];
 
 /// The commands that take `--peers FILE`.
 static PEERS_FILE: [&str; 7] = ["show", "picture", "raw", "info", "groups", "risk", "diff"];
 
 /// The commands that take `--asmap FILE`.
-static ASMAP_FILE: [&str; 10] = [
+static ASMAP_FILE: [&str; 11] = [
     "picture",
     "raw",
     "info",
     "groups",
     "risk",
+    "from-raw",
     "diff",
     "check",
     "lookup",
@@ -85,8 +92,8 @@ pub(crate) fn folder_of(words: &[String]) -> Option<(&str, usize)> {
 impl<'a> Given<'a> {
     /// Makes the arguments of a run: `help COMMAND` if an option asks for it, `version` for `-V`,
     /// and for `--key-file FILE` the key in the file, so that the list of processes doesn't have
-    /// it. `--core` comes first among the arguments, wherever it was. Options that name a file to
-    /// be read are left out.
+    /// it. `--core` or `--raw -` comes first among the arguments, wherever it was. Options that
+    /// name a file to be read are left out.
     pub(crate) fn of<R: Files>(
         alloc: Global,
         rt: &R,
@@ -123,17 +130,22 @@ impl<'a> Given<'a> {
             self.add(alloc, "--anchors")?;
             self.paths.has_anchors = true;
         }
+        let listing = listing_words(command, rest);
+        for word in rest.get(listing.start..listing.end).unwrap_or(&[]) {
+            self.add(alloc, word.as_str())?;
+            self.paths.has_listing = true;
+        }
         let is_read = !self.paths.has_anchors && is_among(&CORE_COMMANDS, command);
         let mut is_core = is_read && has_core(rest);
         if is_core {
             self.add(alloc, "--core")?;
         }
         let mut next = Next::Any;
-        for word in rest {
+        for (i, word) in rest.iter().enumerate() {
             let word = word.as_str();
             if is_core && word == "--core" {
                 is_core = false;
-            } else {
+            } else if !listing.contains(i) {
                 next = self.take(alloc, rt, command, next, word)?;
             }
         }
@@ -186,15 +198,13 @@ impl<'a> Given<'a> {
             Some((flag, value)) => (flag, Some(value)),
             None => (word, None),
         };
-        if self.paths.has_anchors && flag == "--peers" {
-            self.hint = String::from_str(alloc, "--peers: --anchors reads another file")?;
-            self.add(alloc, NO_ARGUMENT)?;
-            return Ok(Next::Any);
+        if flag == "--peers" && (self.paths.has_anchors || self.paths.has_listing) {
+            return self.refuse_peers(alloc);
         }
         if let Some(name) = file_option(command, flag) {
             return self.take_file(alloc, command, name, value);
         }
-        if flag != "--key-file" || !(command == "replay" || command == "opener") {
+        if flag != "--key-file" || !is_among(&KEY_COMMANDS, command) {
             self.add(alloc, word)?;
             return Ok(Next::Any);
         }
@@ -205,6 +215,18 @@ impl<'a> Given<'a> {
             }
             None => Ok(Next::KeyFile),
         }
+    }
+
+    /// Refuses `--peers`, since something else is read in the place of peers.dat.
+    fn refuse_peers(&mut self, alloc: Global) -> Result<Next, AllocError> {
+        let why = if self.paths.has_anchors {
+            "--peers: --anchors reads another file"
+        } else {
+            "--peers: --raw - reads standard input"
+        };
+        self.hint = String::from_str(alloc, why)?;
+        self.add(alloc, NO_ARGUMENT)?;
+        Ok(Next::Any)
     }
 
     /// Takes an option that names a file, perhaps with its value. `diff` has `--peers` without a
@@ -339,6 +361,41 @@ fn anchors_options(words: &[String]) -> usize {
         }
     }
     count
+}
+
+/// Some of the arguments after a command, from an index to another.
+#[derive(Clone, Copy)]
+struct Span {
+    start: usize,
+    end: usize,
+}
+
+impl Span {
+    /// Returns `true` if the argument of this index is one of them.
+    fn contains(self, index: usize) -> bool {
+        self.start <= index && index < self.end
+    }
+}
+
+/// Returns the arguments that are `--raw -`, none if there are none or the command doesn't take
+/// them.
+fn listing_words(command: &str, words: &[String]) -> Span {
+    let mut is_raw = false;
+    if is_among(&RAW_COMMANDS, command) {
+        for (i, word) in words.iter().enumerate() {
+            let word = word.as_str();
+            let end = i.saturating_add(1);
+            if word == "--raw=-" {
+                return Span { start: i, end };
+            }
+            if is_raw && word == "-" {
+                let start = i.saturating_sub(1);
+                return Span { start, end };
+            }
+            is_raw = word == "--raw";
+        }
+    }
+    Span { start: 0, end: 0 }
 }
 
 /// Returns `true` if one of the arguments is `--core`.

@@ -5,7 +5,7 @@
 //! was made of, and reports it (`code`).
 //!
 //! Tested only: that this is the status of `run`, or that a file which an option names is missing,
-//! and that its line is written and then those of `hints`, but for a run whose output nobody reads
+//! or that standard input has no listing that can be read, and that its line is written and then those of `hints`, but for a run whose output nobody reads
 //! any more.
 #![tactic(auto)]
 
@@ -18,10 +18,12 @@ use crate::given::{Given, folder_of};
 use crate::placed::Placed;
 use crate::second::{Facts, second_lines};
 use addrman_run::{Learned, Status, run_learning, status_line};
-use arguments::help_text;
+use arguments::{help_text, read_request};
 pub use ended::Ended;
 use hints::NotedFolder;
-use host_io::{Name, StdSink, StdSource};
+use host_io::{Bytes, Name, Source, StdSink, StdSource};
+use raw_file::{InputFault, ListingFault, read_input};
+use raw_read::{MAX_TEXT, RawFault};
 use std::alloc::Global;
 use std::fs::File;
 use std::hash::RandomState;
@@ -95,7 +97,8 @@ fn without_folder(alloc: Global, folder: &str, error: io::Error) -> Ended {
 /// Runs the program, which reads standard input and writes standard output, and returns how it
 /// ended. `-C DIR` or `--dir=DIR` before the command is the folder of its files; `--peers FILE`,
 /// `--asmap FILE`, `--bans FILE` and `--anchors FILE` are read in the place of files of that
-/// folder. For `show --anchors` the file of anchors is in the place of peers.dat.
+/// folder. For `show --anchors` the file of anchors is in the place of peers.dat, and for `--raw -`
+/// standard input.
 pub fn run_program(rt: &HostRuntime) -> Ended {
     let Ok(_streams) = open_closed_streams(rt) else {
         return Ended::before_the_run("addrman: the standard streams cannot be opened\n");
@@ -121,6 +124,26 @@ pub fn run_program(rt: &HostRuntime) -> Ended {
     }
 }
 
+/// Returns the listing that is read in the place of peers.dat, if the arguments ask for one, or how
+/// the run ends if it cannot be read.
+fn listing_of<L: Source>(
+    alloc: Global,
+    given: &Given<'_>,
+    log: &mut L,
+) -> Result<Option<Bytes>, Status> {
+    if !given.paths.has_listing || read_request(alloc, given.words.as_slice()).is_none() {
+        return Ok(None);
+    }
+    match read_input(alloc, log, MAX_TEXT) {
+        Ok(text) => Ok(Some(text)),
+        Err(InputFault::Failed) => Err(Status::ReadFault),
+        Err(InputFault::TooLarge) => {
+            Err(Status::RawRefused(ListingFault::Text(RawFault::TooLarge)))
+        }
+        Err(InputFault::Memory) => Err(Status::Memory),
+    }
+}
+
 /// Runs the program with these arguments over the current folder, a log and an output, and returns
 /// how it ended. The file of an option is missing for each command that looks for it.
 fn run_over<I: Read + Drop, O: Write + Drop>(
@@ -134,19 +157,27 @@ fn run_over<I: Read + Drop, O: Write + Drop>(
     let words = given.words.as_slice();
     let tells_saves = words.first().is_some_and(|word| word.as_str() == "replay");
     let placed = Placed::make(rt, given.paths);
-    let mut folder = NotedFolder::make(&placed, tells_saves);
     let mut log = StdSource::make(input);
+    let listing = listing_of(alloc, given, &mut log);
+    let text = match &listing {
+        Ok(Some(text)) => Some(text.items()),
+        _ => None,
+    };
+    let mut folder = NotedFolder::make(&placed, tells_saves, text);
     let mut out = StdSink::make(output);
     let mut learned = Learned::make(alloc);
-    let status = run_learning(
-        alloc,
-        hasher,
-        words,
-        &mut log,
-        &mut folder,
-        &mut out,
-        &mut learned,
-    );
+    let status = match &listing {
+        Err(status) => *status,
+        Ok(_) => run_learning(
+            alloc,
+            hasher,
+            words,
+            &mut log,
+            &mut folder,
+            &mut out,
+            &mut learned,
+        ),
+    };
     let failure = folder
         .failure_text(&given.paths)
         .unwrap_or(String::new(alloc));

@@ -1,7 +1,7 @@
 use addrman_run::{Learned, PeersFault, Status, SumFit, TablesFault};
 use hints::{
     Paths, Saves, anchors_hint, asmap_hint, bans_hint, compile_hint, duplicate_hint, line_hint,
-    missing_hint, peers_hint, place_hint, stream_hint, table_hint, usage_hint,
+    listing_hint, missing_hint, peers_hint, place_hint, stream_hint, table_hint, usage_hint,
 };
 use host_io::Name;
 use std::alloc::{AllocError, Global};
@@ -112,6 +112,7 @@ fn hint_of(alloc: Global, status: &Status, facts: &Facts<'_>) -> Result<String, 
         Status::TableRefused(TablesFault::Compile(fault)) => compile_hint(alloc, fault),
         Status::BansRefused(fault) => bans_hint(alloc, fault, learned.text()),
         Status::AnchorsRefused(fault) => anchors_hint(alloc, fault, learned.head()),
+        Status::RawRefused(fault) => listing_hint(alloc, fault, learned.text()),
         Status::NoAnchors => missing_hint(alloc, Name::Peers, facts.paths),
         Status::NoFile { name } => missing_hint(alloc, *name, facts.paths),
         Status::ReadFault => failed_hint(alloc, "input", facts.input),

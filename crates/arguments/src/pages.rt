@@ -95,9 +95,9 @@ FILE     --peers FILE and --asmap FILE are read in the place of peers.dat and as
 --raw -  reads what raw or getrawaddrman printed, from standard input, in the place of
          peers.dat; not beside --core or --peers.
 --core   takes the checksum of asmap.dat in peers.dat as Bitcoin Core 24 to 30 does.
-Codes    0 done, 2 bad usage, 4 peers.dat is refused, 5 asmap.dat is refused,
-         8 the output cannot be written, 9 the folder failed, 12 out of memory,
-         14 peers.dat is missing, 20 the listing is refused.
+Codes    0 done, 2 bad usage, 4 peers.dat is refused, 5 asmap.dat is refused, 7 the log
+         cannot be read, 8 the output cannot be written, 9 the folder failed, 12 out of
+         memory, 14 peers.dat is missing, 20 the listing is refused.
 ",
 );
 
@@ -129,9 +129,9 @@ FILE     --peers FILE and --asmap FILE are read in the place of peers.dat and as
 --raw -  reads what raw or getrawaddrman printed, from standard input, in the place of
          peers.dat; not beside --core or --peers.
 --core   takes the checksum of asmap.dat in peers.dat as Bitcoin Core 24 to 30 does.
-Codes    0 done, 2 bad usage, 4 peers.dat is refused, 5 asmap.dat is refused,
-         8 the output cannot be written, 9 the folder failed, 12 out of memory,
-         14 peers.dat is missing, 20 the listing is refused.
+Codes    0 done, 2 bad usage, 4 peers.dat is refused, 5 asmap.dat is refused, 7 the log
+         cannot be read, 8 the output cannot be written, 9 the folder failed, 12 out of
+         memory, 14 peers.dat is missing, 20 the listing is refused.
 ",
 );
 
@@ -149,9 +149,9 @@ FILE     --peers FILE and --asmap FILE are read in the place of peers.dat and as
 --raw -  reads what raw or getrawaddrman printed, from standard input, in the place of
          peers.dat; not beside --core or --peers.
 --core   takes the checksum of asmap.dat in peers.dat as Bitcoin Core 24 to 30 does.
-Codes    0 done, 2 bad usage, 4 peers.dat is refused, 5 asmap.dat is refused,
-         8 the output cannot be written, 9 the folder failed, 12 out of memory,
-         14 peers.dat is missing, 20 the listing is refused.
+Codes    0 done, 2 bad usage, 4 peers.dat is refused, 5 asmap.dat is refused, 7 the log
+         cannot be read, 8 the output cannot be written, 9 the folder failed, 12 out of
+         memory, 14 peers.dat is missing, 20 the listing is refused.
 ",
 );
 
@@ -188,17 +188,16 @@ pub(crate) const FROM_RAW: Page = (
     "from-raw --key HEX64 [--net CHAIN] [--core]",
     "makes a peers.dat of what raw or getrawaddrman printed",
     "\
-Reads    standard input, a text of JSON of at most 67108864 bytes; asmap.dat, if it is
-         there.
-Writes   peers.dat, by way of peers.tmp, and a line with its size. A listing has no key,
-         so the records are in other slots than those that it names: each is in the slot
-         that HEX64 gives it.
-HEX64    the key of the file, 64 hexadecimal digits.
+Reads    standard input, a listing of at most 67108864 bytes; asmap.dat, if it is there.
+Writes   peers.dat, by way of peers.tmp; and how many records it has of each table, and
+         how many bytes. A listing has no key: under another one than the node's,
+         records are at other positions of their buckets, and some find theirs occupied.
+HEX64    the key of the file, 64 hexadecimal digits; --key-file FILE has it in a file.
 CHAIN    main, test, testnet4, signet or regtest; main if it is left out. In place of
          --net may be --magic and the 8 hexadecimal digits that its files begin with.
-FILE     --asmap FILE is read in the place of asmap.dat, and --key-file FILE has the key.
+FILE     --asmap FILE is read in the place of asmap.dat.
 --core   writes the checksum of asmap.dat as Bitcoin Core 24 to 30 does.
-Codes    0 done, 2 bad usage, 5 asmap.dat is refused, 7 the input cannot be read, 8 the
+Codes    0 done, 2 bad usage, 5 asmap.dat is refused, 7 the log cannot be read, 8 the
          output cannot be written, 9 the folder failed, 12 out of memory, 20 the listing
          is refused.
 ",

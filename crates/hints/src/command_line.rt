@@ -1,6 +1,9 @@
 use crate::keyword_fields::{expected_text, explain, unknown_keyword};
-use crate::options::explain_options;
+use crate::log_line::{SET, set_text};
+use crate::options::{NO_SUM, explain_options, wrong_option};
 use crate::syntax::Reader;
+use arguments::MAX_MARKS;
+use risk_parts::parse_set;
 use std::alloc::{AllocError, Global};
 
 /// What makes records one group in the form of `risk`.
@@ -24,14 +27,29 @@ fn is_flag(form: &str, word: &str) -> bool {
 /// The form of `show` for a file of anchors.
 const ANCHORS_FORM: &str = "show --anchors [--net CHAIN]";
 
+/// Returns the arguments after `--core` or `--raw -`, which come first, and whether they are
+/// `--raw -`.
+fn after_source(words: &[String]) -> (&[String], bool) {
+    match words {
+        [first, rest @ ..] if first.as_str() == "--core" => (rest, false),
+        [first, rest @ ..] if first.as_str() == "--raw=-" => (rest, true),
+        [first, second, rest @ ..] if first.as_str() == "--raw" && second.as_str() == "-" => {
+            (rest, true)
+        }
+        _ => (words, false),
+    }
+}
+
 /// Says which argument of `risk` is wrong: what makes records one group, or an option after it.
-/// `--core` is before it.
+/// `--core` or `--raw -` is before it.
 fn risk_hint(alloc: Global, form: &'static str, words: &[String]) -> Result<String, AllocError> {
-    let rest = match words {
-        [first, rest @ ..] if first.as_str() == "--core" => rest,
-        _ => words,
-    };
+    let (rest, is_listed) = after_source(words);
     match rest {
+        [first, ..] if is_listed && first.as_str() == "--core" => String::from_str(alloc, NO_SUM),
+        [first, ..] if is_listed && first.as_str() == "-" => String::from_str(
+            alloc,
+            "risk -: standard input has the listing after --raw -, and no sets",
+        ),
         [first, options @ ..] if GROUPINGS.contains(&first.as_str()) => {
             explain_options(alloc, form, options)
         }
@@ -40,35 +58,102 @@ fn risk_hint(alloc: Global, form: &'static str, words: &[String]) -> Result<Stri
     }
 }
 
-/// An option that names a file to be read, and the commands that have it.
-struct FileOption {
+/// Returns the index of `--mark`.
+fn mark_index(words: &[String]) -> Option<usize> {
+    for (i, word) in words.iter().enumerate() {
+        if word.as_str() == "--mark" {
+            return Some(i);
+        }
+    }
+    None
+}
+
+/// Returns `true` if one of the options is `--by`.
+fn has_by(words: &[String]) -> bool {
+    for word in words {
+        if word.as_str() == "--by" || word.as_str().starts_with("--by=") {
+            return true;
+        }
+    }
+    false
+}
+
+/// Says which argument of `picture` is wrong: an option, or a set after `--mark`, which is the last
+/// one.
+fn picture_hint(alloc: Global, form: &'static str, words: &[String]) -> Result<String, AllocError> {
+    let Some(index) = mark_index(words) else {
+        return explain_options(alloc, form, words);
+    };
+    let (options, marked) = words.split_at(index);
+    if let Some(text) = wrong_option(alloc, form, options)? {
+        return Ok(text);
+    }
+    if has_by(options) {
+        return String::from_str(
+            alloc,
+            "--mark: not beside --by, since colours have one meaning",
+        );
+    }
+    let sets = marked.get(1..).unwrap_or(&[]);
+    if sets.is_empty() {
+        return format!(in alloc; "--mark: expected {SET}");
+    }
+    for set in sets {
+        if parse_set(set.as_bytes()).is_none() {
+            let said = set_text(alloc, set.as_bytes())?;
+            return format!(in alloc; "--mark: {}", said.as_str());
+        }
+    }
+    if sets.len() > MAX_MARKS {
+        return format!(in alloc;
+            "--mark: there are at most {MAX_MARKS} sets, not {}",
+            sets.len()
+        );
+    }
+    format!(in alloc; "expected \"{form}\"")
+}
+
+/// An option that few commands have, and these.
+struct RareOption {
     flag: &'static str,
     commands: &'static str,
 }
 
-/// The options that name a file to be read.
-static FILE_OPTIONS: [FileOption; 4] = [
-    FileOption {
+/// The options that few commands have.
+static RARE_OPTIONS: [RareOption; 7] = [
+    RareOption {
         flag: "--peers",
         commands: "show, picture, raw, info, groups, risk and diff",
     },
-    FileOption {
+    RareOption {
         flag: "--asmap",
-        commands: "picture, raw, info, groups, risk, diff, check, lookup, decompile and address",
+        commands: "picture, raw, info, groups, risk, from-raw, diff, check, lookup, decompile and address",
     },
-    FileOption {
+    RareOption {
         flag: "--anchors",
         commands: "show",
     },
-    FileOption {
+    RareOption {
         flag: "--bans",
         commands: "banned and bans",
     },
+    RareOption {
+        flag: "--raw",
+        commands: "picture, info, groups and risk",
+    },
+    RareOption {
+        flag: "--by",
+        commands: "picture",
+    },
+    RareOption {
+        flag: "--mark",
+        commands: "picture",
+    },
 ];
 
-/// Returns the option of another command, if an argument is one that names a file.
-fn file_option(form: &str, words: &[String]) -> Option<&'static FileOption> {
-    for option in &FILE_OPTIONS {
+/// Returns the option of other commands, if an argument is one.
+fn rare_option(form: &str, words: &[String]) -> Option<&'static RareOption> {
+    for option in &RARE_OPTIONS {
         for word in words {
             let begins = word.as_str().strip_prefix(option.flag);
             if !form.contains(option.flag)
@@ -110,7 +195,7 @@ pub fn usage_hint(alloc: Global, words: &[String]) -> Result<String, AllocError>
         );
     }
     if let Some(form) = Reader::Arguments.find_form(command.as_bytes()) {
-        if let Some(option) = file_option(form, rest) {
+        if let Some(option) = rare_option(form, rest) {
             return format!(in alloc;
                 "{} is no option of {}, but of {}",
                 option.flag,
@@ -120,6 +205,9 @@ pub fn usage_hint(alloc: Global, words: &[String]) -> Result<String, AllocError>
         }
         if form.starts_with("risk ") {
             return risk_hint(alloc, form, rest);
+        }
+        if form.starts_with("picture ") {
+            return picture_hint(alloc, form, rest);
         }
         if let [first, options @ ..] = rest
             && first.as_str() == "--anchors"

@@ -20,6 +20,8 @@ pub struct Paths<'a> {
     pub bans: Option<&'a str>,
     /// Whether what is read in the place of peers.dat is a file of anchors.
     pub has_anchors: bool,
+    /// Whether the listing in standard input is read in the place of peers.dat.
+    pub has_listing: bool,
 }
 
 impl<'a> Paths<'a> {
@@ -30,6 +32,7 @@ impl<'a> Paths<'a> {
             asmap: None,
             bans: None,
             has_anchors: false,
+            has_listing: false,
         }
     }
 
@@ -115,7 +118,7 @@ pub fn compile_hint(alloc: Global, fault: &CompileFault) -> Result<String, Alloc
 /// Says why banlist.json is refused, which has this text.
 pub fn bans_hint(alloc: Global, fault: &BanFault, text: &[u8]) -> Result<String, AllocError> {
     match fault {
-        BanFault::Json => json_hint(alloc, text),
+        BanFault::Json => json_hint(alloc, text, "an empty list is {\"banned_nets\":[]}"),
         BanFault::Form => {
             String::from_str(alloc, "it is no object with an array under banned_nets")
         }
@@ -127,8 +130,8 @@ pub fn bans_hint(alloc: Global, fault: &BanFault, text: &[u8]) -> Result<String,
     }
 }
 
-/// Says why a text is no JSON.
-fn json_hint(alloc: Global, text: &[u8]) -> Result<String, AllocError> {
+/// Says why a text is no JSON. `expected` says what it has to be.
+pub(crate) fn json_hint(alloc: Global, text: &[u8], expected: &str) -> Result<String, AllocError> {
     if is_packed(text) {
         return String::from_str(alloc, PACKED);
     }
@@ -138,9 +141,7 @@ fn json_hint(alloc: Global, text: &[u8]) -> Result<String, AllocError> {
     match Value::from_slice(alloc, text) {
         Err(error) => {
             let (line, column) = (error.line(), error.column());
-            format!(in alloc;
-                "line {line}, column {column}: no JSON; an empty list is {{\"banned_nets\":[]}}"
-            )
+            format!(in alloc; "line {line}, column {column}: no JSON; {expected}")
         }
         Ok(_) => Ok(String::new(alloc)),
     }

@@ -18,6 +18,7 @@ mod options;
 mod peers_dat;
 mod prefixes_txt;
 mod quoting;
+mod raw_listing;
 mod syntax;
 
 pub use anchors_dat::anchors_hint;
@@ -29,3 +30,4 @@ pub use log_line::line_hint;
 pub use noted_folder::{NotedFolder, Saves};
 pub use peers_dat::{duplicate_hint, peers_hint};
 pub use prefixes_txt::table_hint;
+pub use raw_listing::listing_hint;

@@ -43,11 +43,19 @@ pub fn line_hint(
     format!(in alloc; "column {column}: {}", wrong.text.as_str())
 }
 
+/// What is said of a set of addresses.
+pub(crate) const SET: &str =
+    "a prefix, as 1.2.0.0/16 or 2001:470::/32, or an AS number, as AS64500";
+
+/// Says what is wrong with a text that is that of no set of addresses.
+pub(crate) fn set_text(alloc: Global, text: &[u8]) -> Result<String, AllocError> {
+    let usual = usual_error("S", text).unwrap_or("");
+    expected_text(alloc, SET, text, usual)
+}
+
 /// Says what is wrong with a line that names no set of addresses.
 fn set_hint(alloc: Global, line: &[u8]) -> Result<String, AllocError> {
-    let usual = usual_error("S", line).unwrap_or("");
-    let expected = "a prefix, as 1.2.0.0/16 or 2001:470::/32, or an AS number, as AS64500";
-    let said = expected_text(alloc, expected, line, usual)?;
+    let said = set_text(alloc, line)?;
     format!(in alloc; "column 1: {}", said.as_str())
 }
 

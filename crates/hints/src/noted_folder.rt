@@ -18,12 +18,13 @@ pub struct Saves {
 }
 
 /// The current folder, with the saves counted. A save that fails is reported at once, if the run
-/// goes on after it.
+/// goes on after it. A listing may be in the place of peers.dat.
 #[derive(Drop)]
 pub struct NotedFolder<'a, R: Files> {
     folder: DirFolder<'a, R>,
     rt: &'a R,
     tells_saves: bool,
+    listing: Option<&'a [u8]>,
     saves: Saves,
 }
 
@@ -37,12 +38,13 @@ impl<'a, R: Files> Model for NotedFolder<'a, R> {
 
 impl<'a, R: Files + AllocGlobal + Eprint> NotedFolder<'a, R> {
     /// Returns the current folder, as `rt` reaches it. If the run goes on after a save that failed,
-    /// `tells_saves` says so.
-    pub fn make(rt: &'a R, tells_saves: bool) -> NotedFolder<'a, R> {
+    /// `tells_saves` says so. The listing, if there is one, is read as peers.dat.
+    pub fn make(rt: &'a R, tells_saves: bool, listing: Option<&'a [u8]>) -> NotedFolder<'a, R> {
         NotedFolder {
             folder: DirFolder::make(rt),
             rt,
             tells_saves,
+            listing,
             saves: Saves {
                 done: 0,
                 failed: 0,
@@ -66,6 +68,15 @@ impl<'a, R: Files + AllocGlobal + Eprint> NotedFolder<'a, R> {
         }
     }
 
+    /// Returns what is read in the place of a file of the folder, if something is.
+    fn listing_as(&self, name: Name) -> Option<&'a [u8]> {
+        if name == Name::Peers {
+            self.listing
+        } else {
+            None
+        }
+    }
+
     /// Counts a save that failed, and says so, if the run goes on.
     fn note(&mut self, outcome: &Result<(), Failed>)
         ensures same { self.new ≡ self.old }
@@ -81,6 +92,17 @@ impl<'a, R: Files + AllocGlobal + Eprint> NotedFolder<'a, R> {
     }
 }
 
+/// Copies the bytes at offset `at` to the start of `buf`, and returns how many.
+fn copy_from(bytes: &[u8], at: u64, buf: &mut [u8]) -> usize
+    ensures { result ≤ length buf.old }
+{
+    let start = bytes.len().min(at as usize);
+    let left = &bytes[start..];
+    let count = left.len().min(buf.len());
+    buf[..count].copy_from_slice(&left[..count]);
+    count
+}
+
 impl<'a, R: Files + AllocGlobal + Eprint> Folder for NotedFolder<'a, R>
 where
     R::File: Lock,
@@ -90,7 +112,10 @@ where
     ghost faults = { λ f. f };
 
     fn size(&mut self, name: Name) -> Result<Option<u64>, Failed> {
-        self.folder.size(name)
+        match self.listing_as(name) {
+            Some(listing) => Ok(Some(listing.len() as u64)),
+            None => self.folder.size(name),
+        }
     }
 
     fn read(&mut self, name: Name, at: u64, buf: &mut [u8]) -> Result<usize, Failed>
@@ -99,7 +124,10 @@ where
         ensures cause { OnErr result (Rose self.old self.new) }
         ensures never_falls { self.old ≤ self.new }
     {
-        self.folder.read(name, at, buf)
+        match self.listing_as(name) {
+            Some(listing) => Ok(copy_from(listing, at, buf)),
+            None => self.folder.read(name, at, buf),
+        }
     }
 
     fn create(&mut self, name: Name) -> Result<(), Failed> {

@@ -4,6 +4,9 @@ use crate::quoting::quoted;
 use crate::syntax::keyword_of;
 use std::alloc::{AllocError, Global};
 
+/// What the colours of a picture go by.
+static COLOURINGS: [&str; 4] = ["network", "source", "group", "age"];
+
 /// How many hexadecimal digits a key has.
 const KEY_DIGITS: usize = 64;
 
@@ -17,7 +20,19 @@ enum Name {
     Net,
     Magic,
     Core,
+    Raw,
+    By,
 }
+
+/// All options.
+static NAMES: [Name; 6] = [
+    Name::Key,
+    Name::Net,
+    Name::Magic,
+    Name::Core,
+    Name::Raw,
+    Name::By,
+];
 
 /// An option, and the value that an argument has after `=`.
 #[derive(Clone, Copy)]
@@ -34,15 +49,16 @@ impl Name {
             Name::Net => "--net",
             Name::Magic => "--magic",
             Name::Core => "--core",
+            Name::Raw => "--raw",
+            Name::By => "--by",
         }
     }
 
     /// Returns the name in the forms that have the option.
     fn in_form(self) -> &'static str {
         match self {
-            Name::Key => "--key",
-            Name::Core => "--core",
-            Name::Net | Name::Magic => "--net",
+            Name::Magic => "--net",
+            other => other.text(),
         }
     }
 
@@ -53,6 +69,8 @@ impl Name {
             Name::Net => "main, test, testnet4, signet or regtest",
             Name::Magic => "8 hexadecimal digits",
             Name::Core => "",
+            Name::Raw => "-, which is standard input",
+            Name::By => "network, source, group or age",
         }
     }
 
@@ -62,6 +80,9 @@ impl Name {
     }
 }
 
+/// What is said of `--core` and `--raw -` together.
+pub(crate) const NO_SUM: &str = "--core: not beside --raw, since a listing has no checksum";
+
 /// Says which of the arguments after the name of a command is wrong. After the name its form has
 /// only options.
 pub(crate) fn explain_options(
@@ -69,21 +90,36 @@ pub(crate) fn explain_options(
     form: &'static str,
     words: &[String],
 ) -> Result<String, AllocError> {
+    match wrong_option(alloc, form, words)? {
+        Some(text) => Ok(text),
+        None => format!(in alloc; "expected \"{form}\""),
+    }
+}
+
+/// Says which of some options is wrong, or returns `None` if each is right by itself.
+pub(crate) fn wrong_option(
+    alloc: Global,
+    form: &'static str,
+    words: &[String],
+) -> Result<Option<String>, AllocError> {
     let mut names = Vec::new(alloc);
     let mut pending = None;
     for word in words {
         let Some(given) = given_by(form, pending, word.as_str()) else {
-            return no_option(alloc, form, word.as_str());
+            return Ok(Some(no_option(alloc, form, word.as_str())?));
         };
         let name = given.name;
         if pending.is_none() {
             if names.contains(&name) {
-                return format!(in alloc; "{} comes twice", name.text());
+                return Ok(Some(format!(in alloc; "{} comes twice", name.text())?));
             }
             names.push(name)?;
         }
+        if names.contains(&Name::Core) && names.contains(&Name::Raw) {
+            return Ok(Some(String::from_str(alloc, NO_SUM)?));
+        }
         if let Some(text) = explain_given(alloc, given)? {
-            return Ok(text);
+            return Ok(Some(text));
         }
         pending = match given.value {
             None if name.has_value() => Some(name),
@@ -91,8 +127,8 @@ pub(crate) fn explain_options(
         };
     }
     match pending {
-        Some(name) => format!(in alloc; "{}: expected {}", name.text(), name.wanted()),
-        None => format!(in alloc; "expected \"{form}\""),
+        Some(name) => Ok(Some(format!(in alloc; "{}: expected {}", name.text(), name.wanted())?)),
+        None => Ok(None),
     }
 }
 
@@ -109,7 +145,7 @@ fn given_by<'a>(form: &'static str, pending: Option<Name>, word: &'a str) -> Opt
 
 /// Returns the option of the form that an argument begins with.
 fn option_of<'a>(form: &'static str, word: &'a str) -> Option<Given<'a>> {
-    for name in [Name::Key, Name::Net, Name::Magic, Name::Core] {
+    for name in NAMES {
         if !form.contains(name.in_form()) {
             continue;
         }
@@ -136,7 +172,7 @@ fn explain_given(alloc: Global, given: Given<'_>) -> Result<Option<String>, Allo
     };
     match given.name {
         Name::Key => explain_key(alloc, value),
-        other => explain_chain(alloc, other, value),
+        other => explain_value(alloc, other, value),
     }
 }
 
@@ -151,10 +187,13 @@ fn explain_key(alloc: Global, digits: &str) -> Result<Option<String>, AllocError
     Ok(Some(text))
 }
 
-/// Says what is wrong with the name of a chain or its magic, or returns `None` if nothing is.
-fn explain_chain(alloc: Global, name: Name, value: &str) -> Result<Option<String>, AllocError> {
+/// Says what is wrong with the value of an option other than the key, or returns `None` if nothing
+/// is.
+fn explain_value(alloc: Global, name: Name, value: &str) -> Result<Option<String>, AllocError> {
     let is_right = match name {
         Name::Magic => value.len() == MAGIC_DIGITS && is_hex(value),
+        Name::Raw => value == "-",
+        Name::By => COLOURINGS.contains(&value),
         _ => is_chain(value),
     };
     if is_right {
@@ -206,9 +245,14 @@ fn no_option(alloc: Global, form: &'static str, word: &str) -> Result<String, Al
     if word.starts_with("--") && form.contains(word) {
         return format!(in alloc; "{shown} comes once, and not here; expected \"{form}\"");
     }
-    if !word.starts_with("-") && (command == "replay" || command == "opener") {
+    let input = match command {
+        "replay" | "opener" => "log",
+        "from-raw" => "listing",
+        _ => "",
+    };
+    if !word.starts_with("-") && !input.is_empty() {
         return format!(in alloc;
-            "{shown} is no option: {command} reads its log from standard input, as < FILE"
+            "{shown} is no option: {command} reads its {input} from standard input, as < FILE"
         );
     }
     let file = if is_path(word) {

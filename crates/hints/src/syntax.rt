@@ -1,14 +1,15 @@
 /// The forms of the command line, one a command.
-static COMMANDS: [&str; 23] = [
+static COMMANDS: [&str; 24] = [
     "replay [--key HEX64] [--net CHAIN] [--core]",
     "opener [--key HEX64] [--net CHAIN] [--core]",
     "limit",
     "show [--anchors] [--net CHAIN] [--no-key] [--core]",
-    "picture [--by network|source|group|age] [--net CHAIN] [--core]",
+    "picture [--by network|source|group|age] [--net CHAIN] [--core|--raw -] [--mark SET..]",
     "raw [--net CHAIN] [--core]",
-    "info [--net CHAIN] [--core]",
-    "groups [--net CHAIN] [--core]",
-    "risk source|peer|network|- [--net CHAIN] [--core]",
+    "info [--net CHAIN] [--core|--raw -]",
+    "groups [--net CHAIN] [--core|--raw -]",
+    "risk source|peer|network|- [--net CHAIN] [--core|--raw -]",
+    "from-raw --key HEX64 [--net CHAIN] [--core]",
     "compile",
     "decompile",
     "diff [--peers [--net CHAIN] [--core]]",

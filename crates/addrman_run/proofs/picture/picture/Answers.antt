@@ -13,4 +13,4 @@ returns-clause-text g c =
     let new = g.K.Sink.written c.write_view.new.out in
     drawn c.args.colours c.args.from past old new c.write_view.result
     (subst (λ (chain : Chain). TextOut (IsViewText (λ view text. text ≡ picture_for c.args.colours chain view) c.args.from) (ReportsView c.args.from) past old new c.write_view.result)
-    c.chain_of.ensures c.write_view.ensures.text)
+    c.chain_of-chain.ensures c.write_view.ensures.text)

@@ -18,6 +18,6 @@ pub loop-i-preserved : goal.loop-i-preserved
 loop-i-preserved c = (
   length-set c.loop-i.sets c.loop-i.i _ ∙ c.loop-i.invariant.0,
   next_set string_bytes c.args.words.now c.loop-i.i c.index-words-i.result c.in-Some.set c.loop-i.sets c.loop-i-test.true c.index-words-i.is
-  (omega (arith, c.loop-i.invariant.0, c.loop-i-test.true, c.if-words-gt-MAX_MARKS.false))
-  (subst (λ t. IsSetText t c.in-Some.set) c.as_bytes.ensures.value c.in-Some.ensures.found) c.loop-i.invariant.1,
+      (omega (arith, c.loop-i.invariant.0, c.loop-i-test.true, c.if-words-gt-MAX_MARKS.false))
+      (subst (λ t. IsSetText t c.in-Some.set) c.as_bytes.ensures.value c.in-Some.ensures.found) c.loop-i.invariant.1,
 )

@@ -1,0 +1,61 @@
+use crate::files::{PACKED, is_packed, json_hint};
+use raw_file::ListingFault;
+use raw_read::{Field, MAX_TEXT, RawFault};
+use std::alloc::{AllocError, Global};
+
+/// What a listing is.
+const LISTING: &str = "expected what bitcoin-cli getrawaddrman prints, or addrman raw";
+
+/// Says why a listing is refused, which has this text.
+pub fn listing_hint(
+    alloc: Global,
+    fault: &ListingFault,
+    text: &[u8],
+) -> Result<String, AllocError> {
+    match fault {
+        ListingFault::Text(RawFault::Json) if text.is_empty() => {
+            format!(in alloc; "standard input is empty: {LISTING}")
+        }
+        ListingFault::Text(RawFault::Json) => no_json(alloc, text),
+        ListingFault::Text(RawFault::TooLarge) => {
+            format!(in alloc; "a listing has at most {MAX_TEXT} bytes")
+        }
+        ListingFault::Text(RawFault::Row { field, .. }) => {
+            format!(in alloc; "expected {} in this slot", field_text(*field))
+        }
+        other => String::from_str(alloc, fixed_text(other)),
+    }
+}
+
+/// Says why a text is no JSON, or nests too deep.
+fn no_json(alloc: Global, text: &[u8]) -> Result<String, AllocError> {
+    if is_packed(text) {
+        return String::from_str(alloc, PACKED);
+    }
+    json_hint(alloc, text, LISTING)
+}
+
+/// Returns what is said of a fault that has no numbers.
+fn fixed_text(fault: &ListingFault) -> &'static str {
+    match fault {
+        ListingFault::Text(RawFault::Form) =>
+            "expected an object with an object each under new and tried, as getrawaddrman prints it",
+        ListingFault::Text(RawFault::Slot { .. }) =>
+            "a member is named by its slot, as 1023/63, and they come by rising slots; \
+             new has 1024 buckets, tried 256, each 64 positions",
+        ListingFault::Again { .. } =>
+            "a peer is in one table, once in a bucket, and its slots say the same of it",
+        _ => "",
+    }
+}
+
+/// Returns what a field of a record has to be.
+fn field_text(field: Field) -> &'static str {
+    match field {
+        Field::Address => "an address or a name as text under address",
+        Field::Port => "a number from 0 to 65535 under port",
+        Field::Services => "a number below 2^64 under services",
+        Field::Time => "a number from 0 to 4294967295 under time",
+        Field::Source => "an address or a name as text under source",
+    }
+}
