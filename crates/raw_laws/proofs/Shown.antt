@@ -52,16 +52,19 @@ none-outside low high n (row ∷ rows) h out = go (number row == n) refl (none-o
     go true e later = absurd (outside low high n (number row) h.0 h.1 out (eqb-true (number row) n e))
     go false e later = ap (λ b. if b then Some row else row_in rows n) e ∙ later
 
+some-none : (row : RawRow) → ◌≡◌ {A = Option RawRow} (Some row) None → ⊥
+some-none row e = cc
+
 -- a row of the later ones, or of the earlier ones
 after-none : (n : ℕ) (rows more : List RawRow) → row_in rows n ≡ None → row_in (rows ++ more) n ≡ row_in more n
 after-none n [] more none = refl
-after-none n (row ∷ rows) more none = go (number row == n) refl
+after-none n (row ∷ rows) more none = go (number row == n) refl (λ k. after-none n rows more k)
   where
-    go : (v : Bool) → (number row == n) ≡ v → row_in (row ∷ (rows ++ more)) n ≡ row_in more n
-    go true e = cc (ap (λ b. if b then Some row else row_in rows n) e, none)
-    go false e =
+    go : (v : Bool) → (number row == n) ≡ v → (row_in rows n ≡ None → row_in (rows ++ more) n ≡ row_in more n) → row_in (row ∷ (rows ++ more)) n ≡ row_in more n
+    go true e later = absurd (some-none row (sym (ap (λ b. if b then Some row else row_in rows n) e) ∙ none))
+    go false e later =
         ap (λ b. if b then Some row else row_in (rows ++ more) n) e
-        ∙ after-none n rows more (sym (ap (λ b. if b then Some row else row_in rows n) e) ∙ none)
+        ∙ later (sym (ap (λ b. if b then Some row else row_in rows n) e) ∙ none)
 
 before-none : (n : ℕ) (rows more : List RawRow) → row_in more n ≡ None → row_in (rows ++ more) n ≡ row_in rows n
 before-none n [] more none = none
@@ -81,22 +84,22 @@ module _ (part : ℕ → List RawRow) (start : ℕ → ℕ) (rises : (a b : ℕ)
 
   found-in : (count from i n : ℕ) → from ≤ i → i < from + count → start i ≤ n → n < start (i + 1) → row_in (flat_map part (range_with_len from count)) n ≡ row_in (part i) n
   found-in zero from i n a b c d = absurd (omega (arith, a, b))
-  found-in (suc count) from i n a b c d = go (from == i) refl
+  found-in (suc count) from i n a b c d = go (from == i) refl (λ next. found-in count (from + 1) i n next (omega (arith, b)) c d)
     where
       more : List RawRow
       more = flat_map part (range_with_len (from + 1) count)
 
-      go : (v : Bool) → (from == i) ≡ v → row_in (part from ++ more) n ≡ row_in (part i) n
-      go true e =
+      go : (v : Bool) → (from == i) ≡ v → (from + 1 ≤ i → row_in more n ≡ row_in (part i) n) → row_in (part from ++ more) n ≡ row_in (part i) n
+      go true e later =
           let same = eqb-true from i e in
           let below : n < start (from + 1) = subst (λ k. n < start (k + 1)) (sym same) d in
           before-none n (part from) more (none-outside (start (from + 1)) (start (from + 1 + count)) n more (parts-within count (from + 1)) (inl below))
           ∙ ap (λ k. row_in (part k) n) same
-      go false e =
+      go false e later =
           let other = eqb-false from i e in
           let next : from + 1 ≤ i = omega (arith, a, other) in
           after-none n (part from) more (none-outside (start from) (start (from + 1)) n (part from) (inside from) (inr (omega (arith, c, rises (from + 1) i next))))
-          ∙ found-in count (from + 1) i n next (omega (arith, b)) c d
+          ∙ later next
 
 -- THE ROWS OF THE TABLES
 
@@ -105,7 +108,7 @@ slot-within bucket position None = tt
 slot-within bucket position (Some r) = (omega arith, omega arith, tt)
 
 module _ (table : Table) (st : State) where
-  slot-rows : ℕ → ℕ → List RawRow
+  abbrev slot-rows : ℕ → ℕ → List RawRow
   slot-rows bucket position = row_of bucket position (rec_at table st bucket position)
 
   bucket-within : (bucket : ℕ) → Within (slot_number bucket 0) (slot_number (bucket + 1) 0) (bucket_rows table st bucket)
