@@ -1,5 +1,5 @@
 -- What `from-raw` writes and saves for a listing of the tables, and how it ends.
-use Rattle.std.specs.Prelude.{◌≡◌, ◌≢◌, ◌⊎◌, ℕ, ◌+◌, List, ◌++◌, length, Option, Some, ⊤, codes, decimal}
+use Rattle.std.specs.Prelude.{◌≡◌, ◌≢◌, ◌⊎◌, ℕ, ◌+◌, List, ◌++◌, length, Option, Some, codes, decimal}
 use Rattle.arguments.specs.declared.file_kind.FileKind.{FileKind}
 use Rattle.asmap_vm.specs.Asmap.{Asmap}
 use Rattle.host_io.specs.Disk.{Disk, MayHave}

@@ -19,7 +19,7 @@ use Rattle.raw_file.specs.Faults.{HasListingFault, IsListing}
 use Rattle.raw_file.specs.Listing.{again_at, differs, first_again, first_fault, first_twice, firsts, is_again, known_rec, new_recs, or_else, peers_of, recs_of, same_spot, snapshot_of, spot_of, with_rec}
 use Rattle.raw_file.specs.declared.fault.ListingFault.{ListingFault}
 use Rattle.raw_file.specs.declared.fault.ListingFault.TheVariants.{Memory, Text}
-use Rattle.raw_file.specs.declared.spot.Spot.{Spot}
+use Rattle.raw_file.specs.declared.peers.Spot.{Spot}
 
 pub one_more : {X : Type 0} (xs : List X) (i : ℕ) (x : X) → i < length xs → x ≡ get_or xs i x → take (i + 1) xs ≡ take i xs ++ x ∷ []
 one_more xs i x lt is = (take_at_read xs i x lt).1 ∙ ap (λ y. take i xs ++ y ∷ []) (sym is)

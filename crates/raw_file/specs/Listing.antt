@@ -11,7 +11,7 @@ use Rattle.raw_read.specs.declared.raw.RawTable.{RawTable}
 use Rattle.raw_read.specs.declared.raw.RawTable.TheVariants.{New, Tried}
 use Rattle.raw_file.specs.declared.fault.ListingFault.{ListingFault}
 use Rattle.raw_file.specs.declared.fault.ListingFault.TheVariants.{Again}
-use Rattle.raw_file.specs.declared.spot.Spot.{Spot}
+use Rattle.raw_file.specs.declared.peers.Spot.{Spot}
 use Rattle.slot_grid.specs.declared.sizes.TheConstants.{NEW_BUCKETS}
 
 -- THE SNAPSHOT

@@ -11,7 +11,6 @@ mod input;
 mod law;
 mod listing;
 mod peers;
-mod spot;
 
 pub use fault::ListingFault;
 pub use input::{InputFault, read_input};

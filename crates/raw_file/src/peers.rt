@@ -7,12 +7,18 @@ ghost use Rattle.raw_file.specs.declared.fault.ListingFault.TheVariants as fault
 ghost use Rattle.raw_read.specs.declared.raw.RawTable.TheVariants.{New, Tried};
 
 use crate::ListingFault;
-use crate::spot::Spot;
 use indexmap::IndexSet;
 use net_addr::{Memory, Peer};
 use peer_rec::FileRec;
 use raw_read::{RawRow, RawTable};
 use std::alloc::Global;
+
+/// A bucket of the new table, and a peer in it.
+#[derive(Clone, Copy, Debug, PartialEq, Eq, Hash)]
+pub struct Spot {
+    pub bucket: u16,
+    pub peer: Peer,
+}
 
 /// Returns `true` if two records say the same of their peer.
 fn says_same(a: &FileRec, b: &FileRec) -> bool
