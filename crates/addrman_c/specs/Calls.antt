@@ -1,6 +1,6 @@
 -- What the calls on tables return, write and leave. A call's definition ends with the state
 -- before, the code, the outputs and the state after.
-use Rattle.std.specs.Prelude.{◌≡◌, ◌⊎◌, ℕ, ◌<◌, ◌≤◌, ◌^◌, List, drop, length, Bool, true, false, Option, Some, None, Result, Ok, Err, MatchOption, MatchResult}
+use Rattle.std.specs.Prelude.{◌≡◌, ◌⊎◌, ℕ, ◌<◌, ◌≤◌, ◌^◌, List, Bool, true, false, Option, Some, None, Result, Ok, Err, MatchOption, MatchResult}
 use Rattle.net_addr.specs.Address.{Address}
 use Rattle.net_addr.specs.declared.peer.Entry.{Entry}
 use Rattle.net_addr.specs.declared.peer.Peer.{Peer}
@@ -21,7 +21,7 @@ use Rattle.node_calls.specs.First.{IsFirstAdded, IsFirstFault}
 use Rattle.taking.specs.declared.messages.Added.{Added}
 use Rattle.taking.specs.declared.messages.MessageFault.{MessageFault}
 use Rattle.taking.specs.declared.messages.MessageFault.TheVariants.{Memory, Refused, ShortWords}
-use Rattle.c_values.specs.declared.code.TheConstants.{OK, MEMORY, ARGUMENT, FULL, SHORT_WORDS, SHORT_BUFFER, REFUSED, NONE, EXHAUSTED}
+use Rattle.c_values.specs.declared.code.TheConstants.{OK, MEMORY, ARGUMENT, FULL, SHORT_WORDS, REFUSED, NONE, EXHAUSTED}
 use Rattle.c_values.specs.declared.structs.AddrmanAdded.{AddrmanAdded}
 use Rattle.c_values.specs.declared.structs.AddrmanFault.{AddrmanFault}
 use Rattle.c_values.specs.declared.structs.AddrmanPicked.{AddrmanPicked}
