@@ -115,6 +115,11 @@ function examples() {
     same(words, files, "1.2.3.4:8333\n");
     same(words, {}, "1.2.3.4:8333\n");
   }
+  for (const by of ["network", "source", "group", "age", "tries"])
+    same(["picture", "--by", by], files);
+  for (const sets of ["1.2.0.0/16\nAS6\n::/0\n", "AS6", "1.2.3.4/16\n", ""])
+    same(["risk", "-"], files, sets);
+  same(["picture", "--mark", "1.2.0.0/16", "AS6"], files);
 }
 
 // A log of this seed, the file that it leaves, and that file changed and cut.
