@@ -18,7 +18,7 @@ use Rattle.picture_laws.proofs.Plain.{plain-append, plain-cons, plain-decimal}
 plain-digit : (d : ℕ) → d < 16 → is_plain (slice_index lower_digits d) ≡ true
 plain-digit d small = each_below (λ d. is_plain (slice_index lower_digits d)) 16 refl d small
 
-plain-hex : (n : ℕ) (bytes : List ℕ) → ((i : ℕ) → get_or bytes i 0 < 256) → IsPlain (encode_lower (take n bytes))
+pub plain-hex : (n : ℕ) (bytes : List ℕ) → ((i : ℕ) → get_or bytes i 0 < 256) → IsPlain (encode_lower (take n bytes))
 unfolding encode_with
 plain-hex zero bytes each = refl
 plain-hex (suc n) [] each = refl
@@ -33,12 +33,12 @@ plain-digest message =
     let first : ℕ = slice_index (final_hash initial_hash_256 (sha256 message)) 0 in
     plain-hex 4 (bytes_high_first 4 first) (AllBytes-high_first 4 first)
 
+plain-zeros : IsPlain (encode_lower (0 ∷ 0 ∷ 0 ∷ 0 ∷ []))
+unfolding encode_with
+plain-zeros = refl
+
 plain-sum : (rule : SumRule) (map : Option Asmap) → IsPlain (encode_lower (take 4 (sum_by rule map)))
-plain-sum rule None = nothing
-  where
-    nothing : IsPlain (encode_lower (0 ∷ 0 ∷ 0 ∷ 0 ∷ []))
-    unfolding encode_with
-    nothing = refl
+plain-sum rule None = plain-zeros
 plain-sum rule (Some m) = plain-digest (sum_input rule m.file)
 
 plain-asmap : (places : Places) → IsPlain (asmap_text (sum_of places))
