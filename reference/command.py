@@ -400,7 +400,7 @@ class Run:
             self.print(line)
 
     def picture(self, by: str | None, chain: str, kind: FileKind):
-        self.print(picture(self.saved_tables(kind), by, chain).removesuffix("\n"))
+        self.print(picture(self.saved_tables(kind), by, chain, kind.core).removesuffix("\n"))
 
     def raw(self, _key: None, kind: FileKind):
         self.print(node_json.raw(self.saved_tables(kind)))

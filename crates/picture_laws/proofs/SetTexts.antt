@@ -14,7 +14,7 @@ use Rattle.net_addr.proofs.Bits.{AllBytes}
 use Rattle.net_addr.proofs.Words.{AllSegments-of}
 use Rattle.net_addr.specs.Address.{Address, IsAddress}
 use Rattle.net_addr.specs.NetBits.{each_below}
-use Rattle.net_addr.specs.Text.{ipv4_text, ipv6_text, text_by}
+use Rattle.net_addr.specs.Text.{ipv4_text, ipv6_text, label_of}
 use Rattle.net_addr.specs.declared.net.Net.{Net}
 use Rattle.net_addr.specs.declared.net.Net.TheVariants.{Unroutable, Ipv4, Ipv6, Onion, I2p, Cjdns, Internal}
 use Rattle.picture_laws.proofs.Facts.{plain-hex}
@@ -49,7 +49,7 @@ plain-ipv6 bytes each =
     (All-weaker IsHexOrColon (λ c. is_plain c ≡ true) hex_or_colon text (All-hex_groups_text (segments_of bytes) (AllSegments-of bytes each)))
 
 plain-bytes : (bytes : List ℕ) → AllBytes bytes → IsPlain (encode_lower bytes)
-plain-bytes bytes each = subst (λ (t : List ℕ). IsPlain (encode_lower t)) (take_all bytes (length bytes) (omega arith)) (plain-hex (length bytes) bytes each)
+plain-bytes bytes each = subst (λ (t : List ℕ). IsPlain (encode_lower t)) (take_all (length bytes) bytes (omega arith)) (plain-hex (length bytes) bytes each)
 
 plain-length : (net : Net) (len : ℕ) → IsPlain (length_by net len)
 plain-length Ipv4 len = plain-append (codes "/") (decimal len) refl (plain-decimal len)
@@ -64,10 +64,10 @@ plain-ip : (net : Net) (bytes : List ℕ) → AllBytes bytes → IsPlain (ip_by 
 plain-ip Ipv4 bytes each = plain-ipv4 bytes
 plain-ip Ipv6 bytes each = plain-ipv6 bytes each
 plain-ip Unroutable bytes each = refl
-plain-ip Onion bytes each = plain-append _ (encode_lower bytes) refl (plain-bytes bytes each)
-plain-ip I2p bytes each = plain-append _ (encode_lower bytes) refl (plain-bytes bytes each)
-plain-ip Cjdns bytes each = plain-append _ (encode_lower bytes) refl (plain-bytes bytes each)
-plain-ip Internal bytes each = plain-append _ (encode_lower bytes) refl (plain-bytes bytes each)
+plain-ip Onion bytes each = plain-append (label_of Onion) (encode_lower bytes) refl (plain-bytes bytes each)
+plain-ip I2p bytes each = plain-append (label_of I2p) (encode_lower bytes) refl (plain-bytes bytes each)
+plain-ip Cjdns bytes each = plain-append (label_of Cjdns) (encode_lower bytes) refl (plain-bytes bytes each)
+plain-ip Internal bytes each = plain-append (label_of Internal) (encode_lower bytes) refl (plain-bytes bytes each)
 
 plain-set : (set : AddrSet) → HasAddress set → IsPlain (set_text set)
 plain-set (Subnet s) is =
