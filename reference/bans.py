@@ -159,3 +159,13 @@ def banned(listed: BanList, address: Address, now: int) -> str:
         if subnet.covers(address) and own.until > now:
             return f"banned {subnet_text(subnet, listed.core)} {own.until}"
     return "free"
+
+
+def has(own: Subnet | int, address: Address, number: int) -> bool:
+    """Whether a set has an address that the autonomous system of the number announces."""
+    return number == own if isinstance(own, int) else own.covers(address)
+
+
+def set_text(own: Subnet | int) -> str:
+    """How a set is printed."""
+    return f"AS{own}" if isinstance(own, int) else subnet_text(own, False)

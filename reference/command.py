@@ -22,7 +22,7 @@ from lines import LARGEST_TIME, read_lines
 from log import ReplayLog, TableLog
 from names import name_of, read_text
 from opener import OpenerLog
-from picture import picture
+from picture import picture, picture_of_sets
 from places import group
 from tables import Tables
 from text import MASK, Fault, read_digits, read_number
@@ -152,7 +152,7 @@ def grouping_options(arguments: list[bytes]) -> tuple[str, FileKind]:
     """What makes records one group, and where the tables come from, by the arguments of `risk`."""
     arguments, core, listed = source_options(arguments)
     by = usage(next((own for own in GROUPINGS if arguments[:1] == [own.encode()]), None))
-    if by == "-" and listed:
+    if listed:
         usage()
     return by, FileKind(chain_option(arguments[1:]), core, listed)
 
@@ -471,7 +471,9 @@ class Run:
             self.print(line)
 
     def picture(self, by: str | None, marks: list, chain: str, kind: FileKind):
-        self.print(picture(self.saved_tables(kind), by, chain).removesuffix("\n"))
+        tables = self.saved_tables(kind)
+        text = picture_of_sets(tables, marks, chain, kind.core) if marks else picture(tables, by, chain, kind.core)
+        self.print(text.removesuffix("\n"))
 
     def raw(self, _key: None, kind: FileKind):
         self.print(node_json.raw(self.saved_tables(kind)))

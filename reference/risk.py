@@ -3,7 +3,7 @@
 from fractions import Fraction
 
 from addresses import NETWORKS, UNROUTABLE, routable
-from bans import Subnet, read_subnet, subnet_text
+from bans import Subnet, has, read_subnet, set_text
 from picture import name as group_name
 from places import group
 from tables import LARGEST_FACTOR, ONE, Record, Tables, chance
@@ -183,7 +183,7 @@ def read_set(line: bytes) -> Subnet | int | None:
 def is_in(tables: Tables, own: Subnet | int, record: Record) -> bool:
     """Whether a set has the address of a record's peer."""
     address = record.peer.address
-    return tables.asmap.number_of(address) == own if isinstance(own, int) else own.covers(address)
+    return has(own, address, tables.asmap.number_of(address))
 
 
 def sets_risk(tables: Tables, sets: list[Subnet | int], now: int = RESTARTED) -> str:
@@ -196,7 +196,7 @@ def sets_risk(tables: Tables, sets: list[Subnet | int], now: int = RESTARTED) ->
     def parts(some) -> str:
         numbers = [number for number, record in tables.records.items() if among(some, record)]
         return parts_of(*sides.searches(numbers), sides.searched)
-    lines = [f"set {f'AS{own}' if isinstance(own, int) else subnet_text(own, False)}: {parts([own])}" for own in sets]
+    lines = [f"set {set_text(own)}: {parts([own])}" for own in sets]
     shares = groups_with(tables, sides, lambda record: among(sets, record))
     ten = millionths(all_theirs(shares, sides.searched * WHOLE), TRY_LISTS)
     return "\n".join([heading(tables), *lines, f"union: {parts(sets)}", f"all ten at most {percent(ten)}"])

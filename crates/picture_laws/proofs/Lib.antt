@@ -10,3 +10,5 @@ pub mod DotsOf
 pub mod Trees
 pub mod Most
 pub mod Wide
+pub mod Facts
+pub mod SetTexts

@@ -1,14 +1,18 @@
 -- The picture is the text of a tree of elements.
-use Rattle.std.proofs.Common.{◌≡◌, ℕ, zero, suc, ◌+◌, ◌*◌, ◌==◌, ◌&&◌, Bool, true, false, cond, List, [], ◌∷◌, ◌++◌, length, refl, sym, ap, subst, ◌∙◌, inl, inr, append_assoc}
+use Rattle.std.proofs.Common.{◌≡◌, ℕ, zero, suc, ◌+◌, ◌-◌, ◌*◌, ◌==◌, ◌&&◌, Bool, true, false, cond, List, [], ◌∷◌, ◌++◌, length, refl, sym, ap, subst, ◌∙◌, inl, inr, append_assoc}
 use Rattle.std.specs.Prelude.{All, codes, decimal}
 use Rattle.std.specs.List.{flat_map, list_all, range_with_len}
 use Rattle.std.proofs.lemmas.Bool.{and_from, and_parts}
 use Rattle.std.proofs.lemmas.List.Elements.{All-append, All-from_recursion, All-head, All-nil, All-tail}
 use Rattle.picture_text.specs.Elements.{colour, count_text, ground, label, name_text, new_title, row_text, swatch, tried_title, wide_text}
 use Rattle.picture_text.specs.Head.{Label, head_text, labels, labels_text, meaning, opening_text, styles, svg_attributes, tile, tile_attributes}
-use Rattle.picture_text.specs.Maps.{ground_text, map_opening, map_text, name_at, path_element, paths_text}
+use Rattle.picture_text.specs.Maps.{ground_text, map_opening, map_text, map_with, name_at, path_element, paths_text}
 use Rattle.picture_text.specs.Markup.{Attribute, IsPlain, IsTree, are_unique, element, is_attribute, is_name, is_plain}
-use Rattle.picture_text.specs.Picture.{body_text, free_row, group_row, group_rows, listed_in, maps_text, names_of, others_name, others_of, others_row, others_text, picture_text, rows_text, source_at, titles_text, top_of}
+use Rattle.picture_text.specs.Notes.{first_note, honest_text, notes_by, second_note}
+use Rattle.picture_text.specs.Picture.{body_text, free_row, group_row, group_rows, listed_in, maps_text, maps_with, mark_row, names_of, others_name, others_of, others_row, others_text, picture_text, rest_name, rows_text, sets_in, sets_rows, source_at, spread_body, spread_name, titles_text, top_of}
+use Rattle.picture_text.specs.Spread.{spread_of}
+use Rattle.picture_text.specs.declared.by.By.{By}
+use Rattle.picture_text.specs.declared.by.By.TheVariants.{Network, Source as BySource, Group, Age}
 use Rattle.table_groups.specs.declared.sources.Source.{Source}
 use Rattle.dot_runs.specs.Tables.{path_text}
 use Rattle.picture_laws.proofs.Contents.{AreAttributes, IsBreak, IsContent, beside, characters, empty, line_feed, nested, nothing, rooted}
@@ -154,6 +158,33 @@ map-markup x side marks names each =
     (two (codes "transform", value) (codes "shape-rendering", codes "crispEdges") (refl, plain-numbered (codes "translate(") x (codes " 98) scale(2)") refl refl) (refl, refl))
     (beside (codes "\n") inner line_feed (beside (ground_text (9 * side)) (paths_text marks side names) (ground-markup (9 * side)) (paths-markup marks side names each))) feed)
 
+map-with-markup : (x side : ℕ) (marks : List ℕ) (names : List (List ℕ)) (over : List ℕ) (index : ℕ) (name : List ℕ) → IsPlain name → All IsPlain names
+    → IsContent (map_with x side marks names over index name)
+unfolding map_with map_opening
+map-with-markup x side marks names over index name plain each =
+    let paths : List ℕ = paths_text marks side names ++ path_element over side name index in
+    let inner : List ℕ = ground_text (9 * side) ++ paths in
+    let value : List ℕ = codes "translate(" ++ (decimal x ++ codes " 98) scale(2)") in
+    let attributes : List Attribute = (codes "transform", value) ∷ (codes "shape-rendering", codes "crispEdges") ∷ [] in
+    subst IsContent
+    (ap (λ (t : List ℕ). codes "<g transform=\"translate(" ++ t)
+    (append_assoc (decimal x) (codes " 98) scale(2)") (codes "\" shape-rendering=\"crispEdges\">\n" ++ (inner ++ codes "</g>\n"))
+    ∙ ap (λ (t : List ℕ). decimal x ++ (codes " 98) scale(2)\" shape-rendering=\"crispEdges\">\n" ++ t))
+    (append_assoc (ground_text (9 * side)) paths (codes "</g>\n")
+    ∙ ap (λ (t : List ℕ). ground_text (9 * side) ++ t) (append_assoc (paths_text marks side names) (path_element over side name index) (codes "</g>\n")))
+    ∙ sym (append_assoc (decimal x) (codes " 98) scale(2)\" shape-rendering=\"crispEdges\">\n")
+    (ground_text (9 * side) ++ (paths_text marks side names ++ (path_element over side name index ++ codes "</g>\n"))))))
+    (nested (codes "g") attributes (codes "\n" ++ inner) (codes "\n") refl refl
+    (two (codes "transform", value) (codes "shape-rendering", codes "crispEdges") (refl, plain-numbered (codes "translate(") x (codes " 98) scale(2)") refl refl) (refl, refl))
+    (beside (codes "\n") inner line_feed (beside (ground_text (9 * side)) paths (ground-markup (9 * side))
+    (beside (paths_text marks side names) (path_element over side name index) (paths-markup marks side names each) (path-markup over side name index plain)))) feed)
+
+pub maps-with-markup : (marks : List ℕ) (names : List (List ℕ)) (over : List ℕ) (index : ℕ) (name : List ℕ) → IsPlain name → All IsPlain names
+    → IsContent (maps_with marks names over index name)
+unfolding maps_with
+maps-with-markup marks names over index name plain each =
+    beside _ _ (map-with-markup 56 32 _ names _ index name plain each) (map-with-markup 694 16 _ names _ index name plain each)
+
 plain-others : (n : ℕ) → IsPlain (others_name n)
 unfolding others_name
 plain-others n = plain-append (codes "other groups: ") (decimal n) refl (plain-decimal n)
@@ -162,9 +193,12 @@ group-markup : (s : Source) (name : List ℕ) (index : ℕ) → IsPlain name →
 unfolding group_row
 group-markup s name index plain = beside _ _ (row-markup (top_of index) (colour index) name _ _ (plain-colour index) plain) (count-markup 1056 (top_of index + 10) _)
 
+mark-row-markup : (marks : List ℕ) (mark index : ℕ) (name : List ℕ) → IsPlain name → IsContent (mark_row marks mark index name)
+unfolding mark_row
+mark-row-markup marks mark index name plain = row-markup (top_of index) (colour (mark - 1)) name _ _ (plain-colour (mark - 1)) plain
+
 others-text-markup : (marks : List ℕ) (others : ℕ) → IsContent (others_text marks others)
-unfolding others_text
-others-text-markup marks others = row-markup (top_of 6) (colour 6) (others_name others) _ _ (plain-colour 6) (plain-others others)
+others-text-markup marks others = mark-row-markup marks 7 6 (others_name others) (plain-others others)
 
 others-markup : (marks : List ℕ) (others : ℕ) → IsContent (others_row marks others)
 others-markup marks others = by (others == 0)
@@ -177,18 +211,62 @@ free-markup : (marks : List ℕ) (index : ℕ) → IsContent (free_row marks ind
 unfolding free_row
 free-markup marks index = row-markup (top_of index) ground (codes "free") _ _ refl refl
 
+groups-markup : (listed : List Source) (names : List (List ℕ)) → All IsPlain names → IsContent (group_rows listed names)
+unfolding group_rows
+groups-markup listed names each =
+    each-markup (λ index. group_row (source_at listed index) (name_at names index) index) 0 (length listed) (λ index. group-markup (source_at listed index) (name_at names index) index (plain-name names index each))
+
 rows-markup : (listed : List Source) (marks : List ℕ) (names : List (List ℕ)) (others : ℕ) → All IsPlain names → IsContent (rows_text listed marks names others)
-unfolding rows_text group_rows
+unfolding rows_text
 rows-markup listed marks names others each =
-    beside _ _ (each-markup (λ index. group_row (source_at listed index) (name_at names index) index) 0 (length listed) (λ index. group-markup (source_at listed index) (name_at names index) index (plain-name names index each)))
-    (beside _ _ (others-markup marks others) (free-markup marks (length names)))
+    beside _ _ (groups-markup listed names each) (beside _ _ (others-markup marks others) (free-markup marks (length names)))
+
+pub titles-markup : (marks : List ℕ) → IsContent (titles_text marks)
+unfolding titles_text
+titles-markup marks = beside _ _ (new-title-markup _) (tried-title-markup _)
 
 pub body-markup : (sources : List Source) (marks : List ℕ) (names : List (List ℕ)) → All IsPlain names → IsContent (body_text sources marks names)
-unfolding body_text titles_text maps_text
+unfolding body_text maps_text
 body-markup sources marks names each =
-    beside _ _ (beside _ _ (new-title-markup _) (tried-title-markup _))
+    beside _ _ (titles-markup marks)
     (beside _ _ (beside _ _ (map-markup 56 32 _ names each) (map-markup 694 16 _ names each))
     (beside _ _ (rows-markup (listed_in sources) marks names (others_of sources) each) (wide-markup _)))
+
+-- ---- where some of the other groups spread
+
+plain-spread : (n : ℕ) → IsPlain (spread_name n)
+unfolding spread_name
+plain-spread n = plain-append (codes "of these, spread out: ") (decimal n) refl (plain-decimal n)
+
+plain-honest : (what : By) → IsPlain (honest_text what)
+plain-honest Network = refl
+plain-honest BySource = refl
+plain-honest Group = refl
+plain-honest Age = refl
+
+notes-markup : (what : By) → IsContent (notes_by what)
+unfolding first_note second_note
+notes-markup what =
+    beside first_note (second_note what)
+    (label-markup (codes "694") (codes "682") (codes "k") (codes "In more new buckets than as many slots taken at random") refl refl refl refl)
+    (label-markup (codes "694") (codes "698") (codes "k") (honest_text what) refl refl refl (plain-honest what))
+
+pub spread-markup : (what : By) (sources : List Source) (marks : List ℕ) (names : List (List ℕ)) (over : List ℕ) → All IsPlain names → IsContent (spread_body what sources marks names over)
+unfolding spread_body
+spread-markup what sources marks names over each =
+    let name : List ℕ = spread_name (spread_of what sources) in
+    beside _ _ (titles-markup marks)
+    (beside _ _ (maps-with-markup marks names over 7 name (plain-spread (spread_of what sources)) each)
+    (beside _ _ (rows-markup (listed_in sources) marks names (others_of sources) each)
+    (beside _ _ (wide-markup _) (beside _ _ (mark-row-markup over 8 9 name (plain-spread (spread_of what sources))) (notes-markup what)))))
+
+-- ---- where colours go by sets
+
+pub sets-rows-markup : (marks : List ℕ) (names : List (List ℕ)) → All IsPlain names → IsContent (sets_rows marks names)
+unfolding sets_rows
+sets-rows-markup marks names each =
+    beside _ _ (groups-markup (sets_in marks (length names)) names each)
+    (beside _ _ (mark-row-markup marks 7 (length names) rest_name refl) (free-markup marks (length names + 1)))
 
 -- ---- what each picture has
 

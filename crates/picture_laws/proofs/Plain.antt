@@ -34,13 +34,14 @@ plain-path mark side marks =
     (range_with_len 0 (length marks / 8))
 
 pub plain-colour : (index : ℕ) → IsPlain (colour index)
-plain-colour index = a (index == 0) (index == 1) (index == 2) (index == 3) (index == 4) (index == 5)
+plain-colour index = a (index == 0) (index == 1) (index == 2) (index == 3) (index == 4) (index == 5) (index == 6)
   where
-    a : (p q r s t u : Bool) → IsPlain (cond p (codes "#d55e00") (cond q (codes "#0072b2") (cond r (codes "#009e73") (cond s (codes "#cc79a7") (cond t (codes "#e69f00") (cond u (codes "#56b4e9") (codes "#57606a")))))))
-    a true q r s t u = refl
-    a false true r s t u = refl
-    a false false true s t u = refl
-    a false false false true t u = refl
-    a false false false false true u = refl
-    a false false false false false true = refl
-    a false false false false false false = refl
+    a : (p q r s t u v : Bool) → IsPlain (cond p (codes "#d55e00") (cond q (codes "#0072b2") (cond r (codes "#009e73") (cond s (codes "#cc79a7") (cond t (codes "#e69f00") (cond u (codes "#56b4e9") (cond v (codes "#57606a") (codes "#0b0c0d"))))))))
+    a true q r s t u v = refl
+    a false true r s t u v = refl
+    a false false true s t u v = refl
+    a false false false true t u v = refl
+    a false false false false true u v = refl
+    a false false false false false true v = refl
+    a false false false false false false true = refl
+    a false false false false false false false = refl

@@ -5,7 +5,7 @@ use Rattle.std.specs.List.{count_by, flat_map, range_with_len}
 use Rattle.std.proofs.lemmas.List.{get_or-map, length-map}
 use Rattle.picture_text.specs.Elements.{colour, ground, new_title, row_text, tried_title}
 use Rattle.picture_text.specs.Maps.{name_at}
-use Rattle.picture_text.specs.Picture.{free_row, group_row, group_rows, in_new, in_tried, occupied, others_name, others_text, source_at, titles_text, top_of}
+use Rattle.picture_text.specs.Picture.{free_row, group_row, group_rows, in_new, in_tried, mark_row, occupied, others_name, others_text, source_at, titles_text, top_of}
 use Rattle.table_groups.specs.Slots.{all_slots, new_slots, tried_slots}
 use Rattle.table_groups.specs.Sources.{source_of}
 use Rattle.table_groups.specs.declared.ranked_groups.Counted.{Counted}
@@ -72,7 +72,7 @@ module _ (view : View) where
   few = omega (arith, length-map (listed_of view) (λ (s : Source). s.group.items), groups-few view)
 
   others-are : (count : ℕ) → others_text (marks_of view) count ≡ row_text (top_of 6) (colour 6) (others_name count) (all_slots (is_unlisted view) view) (tried_slots (is_unlisted view) view)
-  unfolding others_text
+  unfolding mark_row
   others-are count = λ i. row_text (top_of 6) (colour 6) (others_name count)
       (count-all view (listed_of view) (λ m. m == 7) (is_unlisted view) (λ o. mark-other view.places (listed_of view) o few) i)
       (count-in-tried view (listed_of view) (λ m. m == 7) (is_unlisted view) (λ o. mark-other view.places (listed_of view) o few) i)

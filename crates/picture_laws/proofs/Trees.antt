@@ -1,6 +1,6 @@
 -- A picture is the text of one tree.
 use Rattle.std.proofs.Common.{◌≡◌, ◌++◌, ℕ, ◌+◌, ◌-◌, ◌/◌, ◌%◌, ◌==◌, Bool, true, false, cond, List, [], ◌∷◌, length, map, refl}
-use Rattle.std.specs.Prelude.{All, IfSome, codes, decimal, Option, Some, None, find, nat_lt}
+use Rattle.std.specs.Prelude.{All, IfSome, codes, Option, Some, None, find, nat_lt}
 use Rattle.std.specs.List.{position_or_len, range_with_len}
 use Rattle.std.proofs.lemmas.List.Elements.{All-contains, All-from_recursion}
 use Rattle.std.specs.List.{AllByRecursion}
@@ -9,11 +9,19 @@ use Rattle.peer_rec.specs.declared.rec.Rec.{Rec}
 use Rattle.picture_text.specs.Markup.{IsPlain, IsTree}
 use Rattle.table_machine.proofs.Lists.{find-Some}
 use Rattle.table_machine.specs.State.{State, is_new_at, is_tried_at, new_rec_at, tried_rec_at}
-use Rattle.table_picture.specs.By.{age_class, age_name, facts_text, name_by, newest_in, rec_in, view_by}
-use Rattle.table_picture.specs.Picture.{listed_of, mark_name, marks_of, names_in, picture_by, picture_of, picture_with, rec_name}
-use Rattle.picture_laws.proofs.Coloured.{picture-by-tree}
+use Rattle.table_picture.specs.By.{age_class, age_name, name_by, newest_in, rec_in, view_by}
+use Rattle.table_picture.specs.Facts.{facts_of}
+use Rattle.table_picture.specs.Picture.{listed_of, mark_name, marks_of, names_in, picture_by, picture_from, picture_of, picture_of_sets, picture_with, rec_name, spread_marks}
+use Rattle.table_picture.specs.Slots.{rec_set, slot_marks}
+use Rattle.picture_text.specs.Picture.{picture_by_text, spread_picture}
+use Rattle.picture_text.specs.Spread.{spread_of}
+use Rattle.picture_laws.proofs.Coloured.{picture-by-tree, sets-tree, spread-tree}
+use Rattle.picture_laws.proofs.Facts.{plain-facts}
+use Rattle.picture_laws.proofs.SetTexts.{plain-sets}
+use Rattle.picture_laws.specs.Sets.{HasAddress}
+use Rattle.risk_parts.specs.Sets.{set_text}
+use Rattle.risk_parts.specs.declared.addr_set.AddrSet.{AddrSet}
 use Rattle.picture_laws.proofs.Markups.{picture-tree}
-use Rattle.picture_laws.proofs.Plain.{plain-append, plain-decimal}
 use Rattle.table_groups.proofs.PlainNames.{name-plain}
 use Rattle.table_groups.specs.Sources.{sources_of}
 use Rattle.table_groups.specs.View.{View, occupant_at, view_of}
@@ -109,20 +117,27 @@ named-plain Source newest places r is = name-plain places r.source is.0
 named-plain Group newest places r is = name-plain places r.peer.addr is.1
 named-plain Age newest places r is = age-plain (age_class newest r.time)
 
-facts-plain : (chain : List ℕ) (newest : ℕ) → IsPlain chain → IsPlain (facts_text chain newest)
-unfolding facts_text
-facts-plain chain newest plain =
-    plain-append (codes "chain ") (chain ++ (codes ", newest time " ++ decimal newest)) refl
-    (plain-append chain (codes ", newest time " ++ decimal newest) plain
-    (plain-append (codes ", newest time ") (decimal newest) refl (plain-decimal newest)))
+picture-tree-from : (what : By) (facts : List ℕ) (view : View) (names : List (List ℕ)) → IsPlain facts → All IsPlain names → IsTree (codes "svg") (picture_from what facts view names)
+picture-tree-from what facts view names plain each = by (spread_of what (sources_of view) == 0)
+  where
+    by : (b : Bool) → IsTree (codes "svg")
+        (cond b (picture_by_text what facts (sources_of view) (marks_of view) names) (spread_picture what facts (sources_of view) (marks_of view) names (spread_marks what view)))
+    by true = picture-by-tree what facts (sources_of view) (marks_of view) names plain each
+    by false = spread-tree what facts (sources_of view) (marks_of view) names (spread_marks what view) plain each
 
 pub tree-by-view : (what : By) (chain : List ℕ) (view : View) → IsPlain chain → HasPeers view → IsTree (codes "svg") (picture_by what chain view)
 unfolding picture_with
 tree-by-view what chain view plain each =
     let newest : ℕ = newest_in view.records in
     let other : View = view_by what newest view in
-    picture-by-tree what (facts_text chain newest) (sources_of other) (marks_of other) (names_in what newest view (marks_of other) (length (listed_of other))) (facts-plain chain newest plain)
+    picture-tree-from what (facts_of chain view) other (names_in what newest view (marks_of other) (length (listed_of other))) (plain-facts chain view.records view.places plain)
     (all-plain view what newest HasAddresses each (λ r is. named-plain what newest view.places r is) (marks_of other) (length (listed_of other)))
 
 pub tree-by : (what : By) (chain : List ℕ) (st : State) → IsPlain chain → All IsRec st.records → IsTree (codes "svg") (picture_by what chain (view_of st))
 tree-by what chain st plain each = tree-by-view what chain (view_of st) plain (has-addresses st each)
+
+-- of sets of addresses
+pub tree-of-sets : (sets : List AddrSet) (chain : List ℕ) (view : View) → IsPlain chain → All HasAddress sets → IsTree (codes "svg") (picture_of_sets sets chain view)
+unfolding picture_of_sets
+tree-of-sets sets chain view plain each =
+    sets-tree (facts_of chain view) (slot_marks (rec_set view.places sets) view) (map set_text sets) (plain-facts chain view.records view.places plain) (plain-sets sets each)

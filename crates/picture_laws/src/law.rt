@@ -12,7 +12,9 @@ ghost use Rattle.placing.specs.Places.{group};
 ghost use Rattle.table_machine.specs.Sound.{IsSound};
 ghost use Rattle.table_machine.specs.State.{State};
 ghost use Rattle.picture_text.specs.declared.by.By.{By};
-ghost use Rattle.table_picture.specs.Picture.{picture_by, picture_of};
+ghost use Rattle.picture_laws.specs.Sets.{HasAddress};
+ghost use Rattle.risk_parts.specs.declared.addr_set.AddrSet.{AddrSet};
+ghost use Rattle.table_picture.specs.Picture.{picture_by, picture_of, picture_of_sets};
 
 use dot_runs::one_dot;
 
@@ -35,6 +37,12 @@ pub fn pictures_are_trees()
 pub fn coloured_pictures_are_trees()
     ensures { (by : By) (chain : List ℕ) (st : State) → IsPlain chain → IsSound st →
         IsTree (codes "svg") (picture_by by chain (view_of st)) }
+{}
+
+/// The same of a picture whose colours go by sets of addresses.
+pub fn pictures_of_sets_are_trees()
+    ensures { (sets : List AddrSet) (chain : List ℕ) (view : View) → IsPlain chain →
+        All HasAddress sets → IsTree (codes "svg") (picture_of_sets sets chain view) }
 {}
 
 /// The numbers of the list and of the titles count slots and buckets of the tables by the groups of

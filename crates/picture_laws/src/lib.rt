@@ -7,5 +7,5 @@ mod law;
 
 pub use law::{
     coloured_pictures_are_trees, listed_groups_have_most, picture_is_a_tree, pictures_are_trees,
-    slots_are_counted, slots_are_drawn, wide_groups_are_counted,
+    pictures_of_sets_are_trees, slots_are_counted, slots_are_drawn, wide_groups_are_counted,
 };

@@ -1,6 +1,6 @@
 -- The tables with the address that the colours of a picture go by in the place of each source, so
 -- that the slots of one colour are those of one group.
-use Rattle.std.specs.Prelude.{ℕ, ◌+◌, ◌-◌, ◌*◌, ◌/◌, ◌%◌, ◌==◌, nat_lt, List, ◌∷◌, map, fold, codes, option_map, replicate, slice_get, unwrap_or, Option, Some, None, if◌then◌else◌}
+use Rattle.std.specs.Prelude.{ℕ, ◌+◌, ◌-◌, ◌*◌, ◌/◌, ◌%◌, ◌==◌, nat_lt, List, ◌∷◌, map, fold, codes, option_map, replicate, slice_get, unwrap_or, Option, None, if◌then◌else◌}
 use Rattle.std.specs.List.{range_with_len}
 use Rattle.net_addr.specs.Address.{Address, net_number}
 use Rattle.net_addr.specs.Text.{net_name}

@@ -12,10 +12,11 @@ use Rattle.table_picture.specs.Date.{date_of, date_text}
 abbrev pub newest_day : List Rec → ℕ
 newest_day recs = newest_in recs / 86400
 
+abbrev pub newest_date : List Rec → List ℕ
+newest_date recs = codes ", newest time " ++ date_text (date_of (newest_day recs))
+
 abbrev pub newest_text : List Rec → List ℕ
-newest_text recs =
-    if length recs == 0 then codes ", no records"
-    else codes ", newest time " ++ date_text (date_of (newest_day recs))
+newest_text recs = if length recs == 0 then codes ", no records" else newest_date recs
 
 -- the first four bytes of the asmap's checksum, in the order of the file of peers; without an asmap
 -- it is 32 zeros

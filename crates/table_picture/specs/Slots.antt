@@ -19,7 +19,7 @@ slot_marks mark view = map (λ slot. mark (rec_in view slot)) (range_with_len 0 
 
 -- 8 for a group that is one of these, else 0
 abbrev pub spread_mark : List Source → List ℕ → ℕ
-spread_mark spread g = if list_any (λ s. bytes_eq s.group.items g) spread then 8 else 0
+spread_mark spread g = if list_any (λ s. bytes_eq g s.group.items) spread then 8 else 0
 
 abbrev pub rec_spread : Places → List Source → Option Rec → ℕ
 rec_spread places spread None = 0

@@ -69,10 +69,7 @@ pub(crate) fn date_of(days: u32) -> Date
 fn two_digits(number: u64) -> [u8; 2]
     ensures { result ≡ two_digits number }
 {
-    [
-        48 + (number / 10 % 10) as u8,
-        48 + (number % 10) as u8,
-    ]
+    [48 + (number / 10 % 10) as u8, 48 + (number % 10) as u8]
 }
 
 /// Appends a date, as `2009-01-03`.

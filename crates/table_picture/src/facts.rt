@@ -1,5 +1,5 @@
 ghost use Rattle.std.specs.Prelude.{◌≡◌, ◌++◌, IfOk, OnOk, length};
-ghost use Rattle.table_picture.specs.Facts.{asmap_text, facts_text, newest_text};
+ghost use Rattle.table_picture.specs.Facts.{asmap_text, facts_text, newest_date, newest_day, newest_text};
 
 use crate::Memory;
 use crate::classes::newest_of;
@@ -12,16 +12,31 @@ use std::alloc::Global;
 /// Seconds of a day.
 const DAY: u32 = 86_400;
 
+/// Returns the day of the newest time of the records, counted from 1 January 1970.
+fn newest_day(recs: &[Rec]) -> u32
+    ensures { result ≡ newest_day recs.now }
+{
+    newest_of(recs) / DAY
+}
+
 /// Appends the date of the newest time of the records.
+fn put_newest_date(recs: &[Rec], out: &mut Vec<u8>) -> Result<(), Memory>
+    ensures { OnOk result (out.new.items ≡ out.old.items ++ newest_date recs.now) }
+{
+    let date = date_of(newest_day(recs));
+    put_text(b", newest time ", out)?;
+    put_date(date, out)?;
+    Ok(())
+}
+
+/// Appends the same, or that there are no records.
 fn put_newest(recs: &[Rec], out: &mut Vec<u8>) -> Result<(), Memory>
     ensures { OnOk result (out.new.items ≡ out.old.items ++ newest_text recs.now) }
 {
     if recs.len() == 0 {
         return Ok(put_text(b", no records", out)?);
     }
-    put_text(b", newest time ", out)?;
-    put_date(date_of(newest_of(recs) / DAY), out)?;
-    Ok(())
+    put_newest_date(recs, out)
 }
 
 /// Appends which asmap has this checksum, 32 zeros without one.

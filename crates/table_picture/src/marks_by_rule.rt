@@ -1,8 +1,7 @@
-ghost use Rattle.std.specs.Prelude.{◌≡◌, ◌≤◌, List, ℕ, bytes_eq, length, IfOk, option_map};
-ghost use Rattle.picture_text.specs.Spread.{is_spread};
+ghost use Rattle.std.specs.Prelude.{◌≡◌, ◌≤◌, List, ℕ, length, IfOk, OnOk, option_map};
 ghost use Rattle.slot_grid.specs.declared.sizes.TheConstants.{ALL_SLOTS};
 ghost use Rattle.table_groups.specs.Tally.{by_bytes, value_in};
-ghost use Rattle.table_picture.specs.Inside.{spread_by};
+ghost use Rattle.table_picture.specs.Inside.{spread_by, with_spread};
 ghost use Rattle.table_picture.specs.Slots.{rec_set, rec_spread, set_mark, slot_marks, spread_in, spread_mark};
 
 use crate::Memory;
@@ -14,11 +13,26 @@ use picture_text::{By, is_spread, unlisted_in};
 use placing::Placer;
 use risk_parts::AddrSet;
 use slot_grid::ALL_SLOTS;
-use std::alloc::Global;
+use std::alloc::{AllocError, Global};
 use std::hash::BuildHasher;
 use std::sync::ledger::Ledger;
 use steps::Steps;
 use table_groups::{Lent, Source, TableView, Tally, copy_of, put_value, value_of};
+
+/// Writes the mark 8 for a group that spreads.
+fn note_spread<H: BuildHasher>(
+    marks: &mut Tally<'_, u8, H>,
+    by: By,
+    source: &Source,
+) -> Result<(), AllocError>
+    ensures { OnOk result (by_bytes marks.new.entries
+        ≡ with_spread by (by_bytes marks.old.entries) source.now) }
+{
+    if is_spread(by, source) {
+        return put_value(marks, copy_of(&source.group), 8);
+    }
+    Ok(())
+}
 
 /// Returns the groups that are not listed and spread, with the mark 8.
 fn spread_in<'a, H: BuildHasher>(
@@ -33,9 +47,7 @@ fn spread_in<'a, H: BuildHasher>(
     let unlisted = unlisted_in(sources);
     let mut spread = IndexMap::with_hasher(alloc, Lent::of(hasher));
     for source in unlisted {
-        if is_spread(by, source) {
-            put_value(&mut spread, copy_of(&source.group), 8)?;
-        }
+        note_spread(&mut spread, by, source)?;
     }
     Ok(spread)
 }
@@ -55,8 +67,28 @@ fn rec_spread<H: BuildHasher>(
     }
 }
 
-/// Returns the marks of the slots: 8 for those of the groups that are not listed and spread.
+/// Returns the marks of the slots by those of some groups.
 #[tactic(auto, unfolding(crate::specs::Slots::slot_marks))]
+fn group_marks<T: TableView, H: BuildHasher, L: Ledger>(
+    alloc: Global,
+    tables: &T,
+    spread: &Tally<'_, u8, H>,
+    steps: &mut Steps<L>,
+) -> Result<Vec<u8>, Memory>
+    ensures marks { IfOk result (λ marks. marks.items ≡ slot_marks
+        (spread_by (T.view tables.now).places (by_bytes spread.now.entries))
+        (T.view tables.now)) }
+    ensures long { IfOk result (λ marks. length marks.items ≡ ALL_SLOTS) }
+{
+    let mut marks = Vec::new(alloc);
+    for slot in 0..ALL_SLOTS {
+        let rec = rec_in(tables, slot, steps);
+        marks.push(rec_spread(tables.places(), spread, rec))?;
+    }
+    Ok(marks)
+}
+
+/// Returns the marks of the slots: 8 for those of the groups that are not listed and spread.
 pub(crate) fn spread_marks<T: TableView, H: BuildHasher, L: Ledger>(
     alloc: Global,
     hasher: &H,
@@ -70,12 +102,7 @@ pub(crate) fn spread_marks<T: TableView, H: BuildHasher, L: Ledger>(
     ensures long { IfOk result (λ marks. length marks.items ≡ ALL_SLOTS) }
 {
     let spread = spread_in(alloc, hasher, by, sources)?;
-    let mut marks = Vec::new(alloc);
-    for slot in 0..ALL_SLOTS {
-        let rec = rec_in(tables, slot, steps);
-        marks.push(rec_spread(tables.places(), &spread, rec))?;
-    }
-    Ok(marks)
+    group_marks(alloc, tables, &spread, steps)
 }
 
 /// Returns the position of the first set that has an address, counted from 1, and 7 if none has.

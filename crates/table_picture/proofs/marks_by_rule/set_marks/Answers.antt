@@ -1,4 +1,4 @@
-use Rattle.std.proofs.Common.{ℕ, map, rules, arith, ap, ◌∙◌}
+use Rattle.std.proofs.Common.{◌≡◌, ℕ, map, rules, ap, ◌∙◌}
 use Rattle.std.specs.List.{range_with_len}
 use Rattle.picture_text.proofs.Rows.{list_more}
 use Rattle.slot_grid.specs.declared.sizes.TheConstants.{ALL_SLOTS}
@@ -17,5 +17,6 @@ loop-slot-preserved g c = record {
 pub returns-clause-marks : goal.returns-clause-marks
 unfolding slot_marks
 returns-clause-marks g c =
+    let last : c.loop-slot.slot ≡ ALL_SLOTS = search rules in
     c.loop-slot.invariant.marks
-    ∙ ap (λ (n : ℕ). map (λ slot. rec_set (g.T.TableView.view c.args.tables.now).places c.args.sets.now (rec_in (g.T.TableView.view c.args.tables.now) slot)) (range_with_len 0 n)) (search rules)
+    ∙ ap (λ (n : ℕ). map (λ slot. rec_set (g.T.TableView.view c.args.tables.now).places c.args.sets.now (rec_in (g.T.TableView.view c.args.tables.now) slot)) (range_with_len 0 n)) last

@@ -3,7 +3,7 @@ use Rattle.std.specs.List.{range_with_len}
 use Rattle.table_groups.specs.Tally.{by_bytes}
 use Rattle.table_picture.specs.By.{rec_in}
 use Rattle.table_picture.specs.Inside.{spread_by}
-use Rattle.table_picture.proofs.marks_by_rule.spread_marks.Given as goal
+use Rattle.table_picture.proofs.marks_by_rule.group_marks.Given as goal
 
 -- the marks of the slots before this one
 abbrev pub invariant-loop-slot : goal.invariant-loop-slot
