@@ -32,6 +32,14 @@ contained (h ∷ groups) g there =
     by true is = refl
     by false is = is
 
+all_tries_are : (n m : ℕ) → sum_tries (2 ^ 64) n m (λ tries. 1) ≡ ((2 ^ 64) ^ n) ^ m
+all_tries_are n m = all_tries (2 ^ 64) n m ∙ ap (λ k. k ^ m) (all_lists_are n)
+
+pub no_more_tries : (st : State) (now n m : ℕ) (theirs : Peer → Bool) (count : ℕ)
+    → sum_tries (2 ^ 64) n m (λ tries. one_if (takes_theirs st now theirs count [] tries)) ≤ ((2 ^ 64) ^ n) ^ m
+no_more_tries st now n m theirs count =
+    subst (λ k. sum_tries (2 ^ 64) n m (λ tries. one_if (takes_theirs st now theirs count [] tries)) ≤ k) (all_tries_are n m) (lists_low st now theirs (2 ^ 64) n count [] m)
+
 module _ (st : State) (now n m unit : ℕ) (theirs : Peer → Bool) (groups : List (List ℕ)) (sound : IsSound st) (are : AreGroupsOf st theirs groups) where
   covers : (peer : Peer) → IsKnown st all peer → theirs peer ≡ true → has groups (group st.places peer.addr) ≡ true
   covers peer known own =
@@ -47,14 +55,11 @@ module _ (st : State) (now n m unit : ℕ) (theirs : Peer → Bool) (groups : Li
       subst (λ k. selecting_lists st false all now (λ peer. bytes_eq g (group st.places peer.addr)) n * whole_of st ≤ k * group_share st now g) (sym (all_lists_are n))
       (by_share st now (λ peer. bytes_eq g (group st.places peer.addr)) sound n)
 
-  every : sum_tries (2 ^ 64) n m (λ tries. 1) ≡ ((2 ^ 64) ^ n) ^ m
-  every = all_tries (2 ^ 64) n m ∙ ap (λ k. k ^ m) (all_lists_are n)
-
   pub by_tries : (count : ℕ) → sum_tries (2 ^ 64) n m (λ tries. one_if (takes_theirs st now theirs count [] tries)) * unit
       ≤ ((2 ^ 64) ^ n) ^ m * (if nat_lt (sum shares) (whole_of st) then part_from shares (sum shares) (whole_of st) 0 count unit else unit)
   by_tries count =
       subst (λ k. sum_tries (2 ^ 64) n m (λ tries. one_if (takes_theirs st now theirs count [] tries)) * unit
-      ≤ k * (if nat_lt (sum shares) (whole_of st) then part_from shares (sum shares) (whole_of st) 0 count unit else unit)) every
+      ≤ k * (if nat_lt (sum shares) (whole_of st) then part_from shares (sum shares) (whole_of st) 0 count unit else unit)) (all_tries_are n m)
       (by (nat_lt (sum shares) (whole_of st)) refl)
     where
       total : sum shares ≡ sum_by (group_share st now) groups

@@ -1,5 +1,6 @@
 mod Bounded
 mod Known
 mod Least
+mod LeastSums
 mod Sums
 mod TriesOf
