@@ -14,6 +14,7 @@ MILLION = 1_000_000
 WHOLE = 1 << 64
 AHEAD = 48  # how many refusals of a search are looked ahead
 CONNECTIONS = 10  # how many outbound connections a node opens
+TRY_LISTS = 1 << 62  # the lists of tries that the bound on them is a part of
 RESTARTED = 600  # a time at which no try is of the last ten minutes, as after a restart
 
 
@@ -147,20 +148,19 @@ def risk(tables: Tables, by: str, now: int = RESTARTED) -> str:
     return "\n".join([heading(tables), *(line for _, _, line in sorted(rows, key=lambda row: row[:2]))])
 
 
-def groups_with(tables: Tables, theirs) -> list[int]:
+def groups_with(tables: Tables, sides: Sides, theirs) -> list[int]:
     """How many picks return a peer of each group that has one of theirs, at most, of all that `searched` tables have."""
     members: dict[bytes, list[int]] = {}
     for number, record in tables.records.items():
         members.setdefault(group(record.peer.address, tables.asmap), []).append(number)
-    sides = Sides(tables, RESTARTED)
-    own = {group(record.peer.address, tables.asmap) for record in tables.records.values() if theirs(record.peer)}
-    return [sum(sides.searches(members[each])) for each in own]
+    own = [numbers for numbers in members.values() if any(theirs(tables.records[number]) for number in numbers)]
+    return [sum(sides.searches(numbers)) for numbers in own]
 
 
 def all_theirs(shares: list[int], whole: int) -> int:
-    """Of 2^64 restarts, how many open all connections to these groups, at most, by what part of the picks each has."""
+    """Of 2^62 lists of tries, how many open all connections to these groups, at most, by what part of the picks each has."""
     total, least = sum(shares), sorted(shares)
-    left = WHOLE
+    left = TRY_LISTS
     for opened in range(CONNECTIONS if total < whole else 0):
         low = sum(least[:opened]) if opened <= len(least) else total
         left = -(-left * (total - low) // (whole - low))
@@ -187,11 +187,16 @@ def is_in(tables: Tables, own: Subnet | int, record: Record) -> bool:
 
 
 def sets_risk(tables: Tables, sets: list[Subnet | int], now: int = RESTARTED) -> str:
-    """The numbers of the tables, a line for the peers of each set, and one for those of all."""
+    """The numbers of the tables, a line for the peers of each set, one for those of all, and one for all connections."""
     sides = Sides(tables, now)
 
+    def among(some, record: Record) -> bool:
+        return any(is_in(tables, own, record) for own in some)
+
     def parts(some) -> str:
-        numbers = [number for number, record in tables.records.items() if any(is_in(tables, own, record) for own in some)]
+        numbers = [number for number, record in tables.records.items() if among(some, record)]
         return parts_of(*sides.searches(numbers), sides.searched)
     lines = [f"set {f'AS{own}' if isinstance(own, int) else subnet_text(own, False)}: {parts([own])}" for own in sets]
-    return "\n".join([heading(tables), *lines, f"union: {parts(sets)}"])
+    shares = groups_with(tables, sides, lambda record: among(sets, record))
+    ten = millionths(all_theirs(shares, sides.searched * WHOLE), TRY_LISTS)
+    return "\n".join([heading(tables), *lines, f"union: {parts(sets)}", f"all ten at most {percent(ten)}"])

@@ -104,7 +104,7 @@ def same_set(browser, program, folder, options=()):
     """Compares the share of typed peers with what `risk -` prints of all the sets."""
     sets = ["0.0.0.0/2", "80.0.0.0/5", "2000::/4", "1.2.3.4"]
     text = made.output(program, ["risk", "-", *options], folder, "\n".join(sets).encode()).decode()
-    wanted = UNION.fullmatch(text.splitlines()[-1]).group(1)
+    wanted = UNION.fullmatch(text.splitlines()[-2]).group(1)
     found = browser.js("return look.setShare(arguments[0])", " ".join(sets))
     assert found == int(wanted.replace(".", "")), (folder, found, wanted)
     assert f"at most {wanted} % of picks" in browser.js("return $('key').textContent"), folder

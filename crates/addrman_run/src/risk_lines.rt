@@ -138,8 +138,9 @@ fn read_sets<L: Source, K: Sink>(
 
 /// Returns the text of which part of the picks falls to the peers of each set. The steps are
 /// counted, and nobody reads how many.
-fn text_of<L: Ledger, H: BuildHasher>(
+fn text_of<L: Ledger, H: BuildHasher, G: BuildHasher>(
     alloc: Global,
+    hasher: &G,
     tables: &Tables<'_, H>,
     sets: &[AddrSet],
     blank: Blank,
@@ -151,12 +152,13 @@ fn text_of<L: Ledger, H: BuildHasher>(
     ensures { IfOk result (λ text. text.items ≡ sets_text tables.now AFTER_RESTART sets.now) }
 {
     let mut steps = Steps::<L>::none(blank);
-    sets_text(alloc, tables, sets, AFTER_RESTART, &mut steps)
+    sets_text(alloc, hasher, tables, sets, AFTER_RESTART, &mut steps)
 }
 
 /// Writes that text.
-fn write_sets<K: Sink, H: BuildHasher>(
+fn write_sets<K: Sink, H: BuildHasher, G: BuildHasher>(
     alloc: Global,
+    hasher: &G,
     tables: &Tables<'_, H>,
     sets: &[AddrSet],
     out: &mut K,
@@ -167,15 +169,16 @@ fn write_sets<K: Sink, H: BuildHasher>(
     ensures write { IsCounted Status.WriteFault (K.faults out.old) (K.faults out.new) result }
     ensures no_disk { result ≢ Status.DiskFault }
 {
-    match text_of::<Brand, H>(alloc, tables, sets, Blank::new(1)) {
+    match text_of::<Brand, H, G>(alloc, hasher, tables, sets, Blank::new(1)) {
         Ok(text) => write_line(text.as_slice(), out),
         Err(_) => Status::Memory,
     }
 }
 
 /// Reads the sets that the lines of the log name, and after its last line writes the text.
-fn over_tables<L: Source, K: Sink, H: BuildHasher>(
+fn over_tables<L: Source, K: Sink, H: BuildHasher, G: BuildHasher>(
     alloc: Global,
+    hasher: &G,
     tables: &Tables<'_, H>,
     log: &mut L,
     out: &mut K,
@@ -192,7 +195,7 @@ fn over_tables<L: Source, K: Sink, H: BuildHasher>(
     let mut sets = SetList::make(alloc);
     let read = read_sets(alloc, log, &mut sets, out, learned);
     if is_done(read) {
-        return write_sets(alloc, tables, sets.as_slice(), out);
+        return write_sets(alloc, hasher, tables, sets.as_slice(), out);
     }
     status_of(read)
 }
@@ -230,7 +233,7 @@ fn write_opened<'a, L: Source, F: Folder, K: Sink, H: BuildHasher + Drop>(
         Ok(tables) => tables,
         Err(status) => return status,
     };
-    over_tables(alloc, &tables, log, out, learned)
+    over_tables(alloc, hasher, &tables, log, out, learned)
 }
 
 /// Writes which part of the picks from the tables of the folder's peers.dat, under its asmap, falls

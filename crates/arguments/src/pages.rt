@@ -160,7 +160,8 @@ peer     groups them by the peer's own address.
 network  groups them by the network of the peer's address.
 -        reads a line each: a prefix, as 1.2.0.0/16 or 2001:db8::/32, a whole address, or
          an AS number, as AS64500. Writes a line for the peers of each, in this order,
-         and one for those of all of them.
+         one for those of all of them, and in how many restarts all ten outbound
+         connections are to these, at most.
 CHAIN    main, test, testnet4, signet or regtest; main if it is left out. In place of
          --net may be --magic and the 8 hexadecimal digits that its files begin with.
 FILE     --peers FILE and --asmap FILE are read in the place of peers.dat and asmap.dat.

@@ -133,7 +133,7 @@ module _ (st : State) (none : HasNoTries st) (now later : ℕ) (one : 600 ≤ no
     theirs = same_starts in_new test c i;
   }) chances
 
-  same_bound : (in_new : Bool) (theirs : Peer → Bool) → bound_in st in_new later theirs ≡ bound_in st in_new now theirs
+  pub same_bound : (in_new : Bool) (theirs : Peer → Bool) → bound_in st in_new later theirs ≡ bound_in st in_new now theirs
   unfolding bound_in
   same_bound in_new theirs =
       λ i. most_by (same_kinds in_new (λ r. theirs r.peer) i) (starts_of (same_kinds in_new (λ r. theirs r.peer) i) * 2 ^ 30) (2 ^ 64) 48 first_factor

@@ -58,7 +58,7 @@ impl Lead {
 }
 
 /// Returns `true` if one of the sets has the address, which this autonomous system announces.
-fn any_has(sets: &[AddrSet], addr: &NetAddr, number: u32) -> bool
+pub fn any_has(sets: &[AddrSet], addr: &NetAddr, number: u32) -> bool
     ensures { result ≡ any_by sets.now addr.now number }
 {
     for set in sets {

@@ -9,6 +9,6 @@ mod parts;
 
 pub use addr_set::{AddrSet, parse_set, put_set};
 pub use law::{limits, parts_are_bounds, parts_last};
-pub use leads::{CHANCES, Lead, kinds_of_all};
+pub use leads::{CHANCES, Lead, any_has, kinds_of_all};
 pub use net_addr::Memory;
 pub use parts::{AHEAD, MILLION, Parts, WHOLE, millionths, parts_among};

@@ -1,9 +1,8 @@
 -- The rows are bounds: the set of a group's peers has its parts.
-use Rattle.std.proofs.Common.{◌≡◌, ℕ, ◌+◌, ◌*◌, ◌^◌, ◌≤◌, min, Bool, true, false, cond, ◌&&◌, ◌||◌, ◌==◌, List, map, refl, sym, ap, subst, ◌∙◌, if◌then◌else◌}
+use Rattle.std.proofs.Common.{◌≡◌, ℕ, ◌+◌, ◌*◌, ◌^◌, ◌≤◌, min, Bool, true, false, cond, ◌&&◌, ◌||◌, ◌==◌, List, map, sym, ap, subst, ◌∙◌, if◌then◌else◌}
 use Rattle.net_addr.specs.NetSet.{all}
 use Rattle.net_addr.specs.declared.peer.Peer.{Peer}
 use Rattle.peer_rec.specs.Rec.{chance}
-use Rattle.peer_rec.specs.declared.rec.Rec.{Rec}
 use Rattle.risk_laws.specs.Classes.{chances, kinds_of, starts_for}
 use Rattle.risk_laws.specs.Lists.{searching_lists, selecting_lists}
 use Rattle.risk_laws.proofs.Classed.{sum_filter}
@@ -43,7 +42,7 @@ module _ (st : State) (by : By) (now : ℕ) (g : List ℕ) (theirs : Peer → Bo
   unfolding bound_in share_of
   bound_same in_new = λ i. most_by (kinds_same in_new i) (starts_of (kinds_same in_new i) * 2 ^ 30) (2 ^ 64) 48 first_factor
 
-  share_same : (in_new : Bool) → share_for st in_new now theirs ≡ share_in st (search in_new by now) g
+  pub share_same : (in_new : Bool) → share_for st in_new now theirs ≡ share_in st (search in_new by now) g
   share_same in_new = λ i. if wanted_in st in_new == 0 then 0 else min (bound_same in_new i) (2 ^ 64)
 
   pub by_picks : (n : ℕ) → selecting_lists st false all now theirs n * 10 ^ 6

@@ -5,3 +5,4 @@ pub mod Lasting
 pub mod LeadsOf
 pub mod RowsOf
 pub mod Ranked
+pub mod TensOf

@@ -36,7 +36,7 @@ fits st what g sound = record {
 pub all_fit : (st : State) (what : Search) → IsSound st → (side : Sides) → side ≡ side_by st what → (g : List ℕ) → FitsSide side g
 all_fit st what sound side is g = subst (λ s. FitsSide s g) (sym is) (fits st what g sound)
 
-share_same : (st : State) (what : Search) (g : List ℕ) → side_share (side_by st what) g ≡ share_in st what g
+pub share_same : (st : State) (what : Search) (g : List ℕ) → side_share (side_by st what) g ≡ share_in st what g
 unfolding share_of classes_share
 share_same st what g =
     λ i. if wanted_in st what.in_new == 0 then 0

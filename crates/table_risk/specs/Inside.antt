@@ -1,8 +1,9 @@
 -- What only private contracts cite: the slots of a mask, the first records of groups, classes of
--- starts, and the sides of both tables.
+-- starts, the sides of both tables, and the groups of some sets.
 use Rattle.std.specs.Int.{bit_at}
 use Rattle.std.specs.List.{flat_map}
-use Rattle.std.specs.Prelude.{ℕ, ◌*◌, ◌^◌, ◌==◌, Bool, false, List, [], ◌∷◌, length, map, ◌≡◌, ◌+◌, ◌≤◌, ◌||◌, min, sum_by, if◌then◌else◌}
+use Rattle.indexmap.specs.IndexMap.{insert_entry}
+use Rattle.std.specs.Prelude.{ℕ, ◌*◌, ◌^◌, ◌==◌, Bool, false, List, [], ◌∷◌, length, map, ◌≡◌, ◌+◌, ◌≤◌, ◌||◌, min, sum_by, bytes_eq, ⊤, if◌then◌else◌}
 use Rattle.net_addr.specs.NetSet.{all}
 use Rattle.peer_rec.specs.Rec.{chance}
 use Rattle.peer_rec.specs.declared.rec.Rec.{Rec}
@@ -12,7 +13,7 @@ use Rattle.risk_sum.specs.declared.kinds.Kind.{Kind}
 use Rattle.table_laws.specs.Odds.{leading_starts}
 use Rattle.table_machine.specs.Picks.{first_factor}
 use Rattle.table_machine.specs.State.{State}
-use Rattle.placing.specs.Places.{Places}
+use Rattle.placing.specs.Places.{Places, group}
 use Rattle.table_groups.specs.Tally.{by_bytes, tally_of, value_in}
 use Rattle.table_risk.specs.Grouping.{group_by}
 use Rattle.table_risk.specs.declared.by.By.{By}
@@ -21,7 +22,11 @@ use Rattle.table_risk.specs.declared.classes.Search.{Search}
 use Rattle.table_risk.specs.declared.rows.Row.{Row}
 use Rattle.table_risk.specs.declared.rows.Side.{Side}
 use Rattle.risk_parts.specs.Parts.{millionths, wanted_in}
+use Rattle.risk_parts.specs.Sets.{is_among}
+use Rattle.risk_parts.specs.declared.addr_set.AddrSet.{AddrSet}
 use Rattle.risk_parts.specs.declared.parts.TheConstants.{AHEAD}
+use Rattle.risk_tries.specs.TenBound.{ten_bound}
+use Rattle.risk_tries.specs.declared.ten.TheConstants.{TRY_LISTS}
 
 -- the slot is in the mask
 abbrev pub in_mask : ℕ → ℕ → Bool
@@ -102,6 +107,10 @@ abbrev pub side_share : Sides → List ℕ → ℕ
 side_share side g =
     if side.wanted == 0 then 0 else min (classes_share side.classes g) (2 ^ 64)
 
+-- how many picks the shares of a group are parts of
+abbrev pub whole_in : Sides → Sides → ℕ
+whole_in new tried = if new.wanted == 0 || tried.wanted == 0 then 2 ^ 64 else 2 ^ 65
+
 abbrev pub row_in : Sides → Sides → List ℕ → ℕ → Row
 row_in new tried g first =
     let in_new = side_share new g in
@@ -109,8 +118,25 @@ row_in new tried g first =
     record {
       group = record { items = g };
       first = first;
-      picks = millionths (in_new + in_tried)
-          (if new.wanted == 0 || tried.wanted == 0 then 2 ^ 64 else 2 ^ 65);
+      picks = millionths (in_new + in_tried) (whole_in new tried);
       new = millionths in_new (2 ^ 64);
       tried = millionths in_tried (2 ^ 64);
     }
+
+-- ---- the groups of the peers of some sets
+
+-- a record, whose group is noted if one of the sets has its peer's address
+abbrev pub noted_among : Places → List AddrSet → List (List ℕ × ⊤) → Rec → List (List ℕ × ⊤)
+noted_among places sets es r =
+    if is_among places sets r.peer then insert_entry bytes_eq es (group places r.peer.addr) tt
+    else es
+
+-- how many of 2^64 or 2^65 picks return a peer of a group, at most
+abbrev pub both_shares : Sides → Sides → List ℕ → ℕ
+both_shares new tried g = side_share new g + side_share tried g
+
+-- which part of the lists of tries opens all outbound connections to peers of some groups, at most
+abbrev pub part_by : Sides → Sides → List (List ℕ) → ℕ
+part_by new tried groups =
+    millionths (ten_bound (map (both_shares new tried) groups) (whole_in new tried) TRY_LISTS)
+    TRY_LISTS

@@ -5,7 +5,8 @@ use Rattle.peer_rec.specs.Rec.{is_tried}
 use Rattle.table_machine.specs.State.{State}
 use Rattle.risk_parts.specs.Parts.{parts_for}
 use Rattle.risk_parts.specs.Sets.{is_among, set_text}
-use Rattle.table_risk.specs.Texts.{heading, parts_text, used_buckets}
+use Rattle.table_risk.specs.Tens.{ten_part}
+use Rattle.table_risk.specs.Texts.{heading, part_text, parts_text, used_buckets}
 use Rattle.risk_parts.specs.declared.addr_set.AddrSet.{AddrSet}
 use Rattle.risk_parts.specs.declared.parts.Parts.{Parts}
 
@@ -33,6 +34,11 @@ heading_of st =
     heading (count_by (λ r. not (is_tried r)) st.records) (count_by is_tried st.records)
     (used_buckets st true) (used_buckets st false)
 
+-- the last line, by the part that opens all outbound connections to peers of the sets
+unfoldable pub ten_line : ℕ → List ℕ
+ten_line part = part_text (codes "all ten at most ") part ++ codes "\n"
+
 -- the text at a time
 abbrev pub sets_text : State → ℕ → List AddrSet → List ℕ
-sets_text st now sets = heading_of st ++ lines_at st now sets
+sets_text st now sets =
+    heading_of st ++ (lines_at st now sets ++ ten_line (ten_part st now sets))

@@ -1,14 +1,20 @@
-ghost use Rattle.std.specs.Prelude.{ℕ, ◌*◌, ◌^◌, ◌≤◌, Bool, true, false, List};
+ghost use Rattle.std.specs.Prelude.{◌≡◌, ℕ, ◌*◌, ◌^◌, ◌≤◌, Bool, true, false, List};
 ghost use Rattle.net_addr.specs.NetSet.{all};
 ghost use Rattle.net_addr.specs.declared.peer.Peer.{Peer};
 ghost use Rattle.risk_laws.specs.Lists.{searching_lists, selecting_lists};
 ghost use Rattle.risk_parts.specs.Parts.{HasNoTries};
+ghost use Rattle.risk_parts.specs.Sets.{is_among};
+ghost use Rattle.risk_parts.specs.declared.addr_set.AddrSet.{AddrSet};
+ghost use Rattle.risk_tries.specs.Tries.{all_theirs};
 ghost use Rattle.table_machine.specs.Picks.{first_factor};
 ghost use Rattle.table_machine.specs.Sound.{IsSound};
 ghost use Rattle.table_machine.specs.State.{State};
 ghost use Rattle.table_risk.specs.Rows.{AreOfGroup, row_by};
+ghost use Rattle.table_risk.specs.Tens.{ten_part};
 ghost use Rattle.table_risk.specs.Texts.{IsRiskText};
 ghost use Rattle.table_risk.specs.declared.by.By.{By};
+
+use risk_tries::tries_are_bounded;
 
 /// Of the (2^64)^n lists of n random words, for every n, `select` returns a peer of a group for at
 /// most the part that its row says, in parts of a million: from both tables, or from the new one
@@ -30,3 +36,17 @@ pub fn rows_are_bounds()
     ensures later { (st : State) (by : By) (now later : ℕ) (text : List ℕ) → HasNoTries st →
         600 ≤ now → 600 ≤ later → IsRiskText st by now text → IsRiskText st by later text }
 {}
+
+/// Of the lists of m tries, each of n random words, for every m and n, at most the part that the
+/// last line of the text of sets says opens all outbound connections to peers whose addresses are
+/// in one of the sets. If the tables know of no try, it is the same at any time from 600 seconds
+/// since 1970 on.
+pub fn tens_are_bounds()
+    ensures all { (st : State) (sets : List AddrSet) (now n m : ℕ) → IsSound st →
+        all_theirs st now (is_among st.places sets) n m * 10 ^ 6
+        ≤ ((2 ^ 64) ^ n) ^ m * ten_part st now sets }
+    ensures later { (st : State) (sets : List AddrSet) (now later : ℕ) → HasNoTries st →
+        600 ≤ now → 600 ≤ later → ten_part st later sets ≡ ten_part st now sets }
+{
+    tries_are_bounded();
+}

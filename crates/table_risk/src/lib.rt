@@ -14,10 +14,11 @@ mod rows;
 mod set_text;
 mod shares;
 mod starts;
+mod ten;
 mod text;
 
 pub use by::By;
-pub use law::rows_are_bounds;
+pub use law::{rows_are_bounds, tens_are_bounds};
 pub use net_addr::Memory;
 pub use parts::set_parts;
 pub use rows::Row;

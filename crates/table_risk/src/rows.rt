@@ -3,7 +3,7 @@ ghost use Rattle.indexmap.specs.IndexMap.{keys};
 ghost use Rattle.std.specs.List.Sorted.{IsPermutation, IsSortedBy};
 ghost use Rattle.risk_parts.specs.Parts.{wanted_in};
 ghost use Rattle.table_machine.specs.Sound.{IsSound};
-ghost use Rattle.table_risk.specs.Inside.{FitsSide, row_in, side_by, side_share, side_value};
+ghost use Rattle.table_risk.specs.Inside.{FitsSide, row_in, side_by, side_share, side_value, whole_in};
 ghost use Rattle.table_risk.specs.Rows.{comes_before, rank_cmp, rows_of};
 ghost use Rattle.table_groups.specs.Tally.{by_bytes, value_in};
 
@@ -36,14 +36,14 @@ pub struct Row {
 
 /// One table: how many starts lead to records of each chance, and how many records it has.
 #[derive(Drop)]
-struct Side<'a, H: BuildHasher> {
+pub(crate) struct Side<'a, H: BuildHasher> {
     classes: Vec<Class<'a, H>>,
     wanted: u32,
 }
 
 /// Returns how many of 2^64 searches of a table end at records of a group, at most. Without
 /// records none do.
-fn share_in<H: BuildHasher>(side: &Side<'_, H>, group: &Group) -> u128
+pub(crate) fn share_in<H: BuildHasher>(side: &Side<'_, H>, group: &Group) -> u128
     requires { FitsSide (side_value side.now) group.now.items }
     ensures is { result ≡ side_share (side_value side.now) group.now.items }
     ensures few { result ≤ 2 ^ 64 }
@@ -55,7 +55,21 @@ fn share_in<H: BuildHasher>(side: &Side<'_, H>, group: &Group) -> u128
     if share < WHOLE { share } else { WHOLE }
 }
 
-/// Returns the row of a group. With records in both tables, half of the picks come from each.
+/// Returns how many picks the shares of a group are parts of. With records in both tables, half of
+/// the picks come from each.
+pub(crate) fn whole_in<H: BuildHasher>(new: &Side<'_, H>, tried: &Side<'_, H>) -> u128
+    ensures is { result ≡ whole_in (side_value new.now) (side_value tried.now) }
+    ensures some { 0 < result }
+    ensures few { result ≤ 2 ^ 65 }
+{
+    if new.wanted == 0 || tried.wanted == 0 {
+        WHOLE
+    } else {
+        2 * WHOLE
+    }
+}
+
+/// Returns the row of a group.
 fn row_in<H: BuildHasher>(
     new: &Side<'_, H>,
     tried: &Side<'_, H>,
@@ -69,15 +83,10 @@ fn row_in<H: BuildHasher>(
 {
     let in_new = share_in(new, group);
     let in_tried = share_in(tried, group);
-    let whole = if new.wanted == 0 || tried.wanted == 0 {
-        WHOLE
-    } else {
-        2 * WHOLE
-    };
     Row {
         group: copy_of(group),
         first,
-        picks: millionths(in_new + in_tried, whole),
+        picks: millionths(in_new + in_tried, whole_in(new, tried)),
         new: millionths(in_new, WHOLE),
         tried: millionths(in_tried, WHOLE),
     }
@@ -113,7 +122,7 @@ fn wanted_in<H: BuildHasher>(tables: &Tables<'_, H>, in_new: bool) -> u32
 }
 
 /// Returns one table's side.
-fn side_of<'a, H: BuildHasher, G: BuildHasher, L: Ledger>(
+pub(crate) fn side_of<'a, H: BuildHasher, G: BuildHasher, L: Ledger>(
     alloc: Global,
     hasher: &'a G,
     tables: &Tables<'_, H>,

@@ -3,11 +3,12 @@ ghost use Rattle.std.specs.List.{flat_map};
 ghost use Rattle.risk_parts.specs.Leads.{AreLeads, AreSomeLeads};
 ghost use Rattle.risk_parts.specs.Sets.{IsProperSet};
 ghost use Rattle.table_machine.specs.State.{State};
-ghost use Rattle.table_risk.specs.SetTexts.{line_at, lines_at, set_line, sets_text, union_line};
+ghost use Rattle.table_risk.specs.SetTexts.{line_at, lines_at, set_line, sets_text, ten_line, union_line};
 
 use crate::Memory;
 use crate::leads::known_of;
-use crate::text::{put_heading, put_parts, used_new, used_tried};
+use crate::ten::ten_part;
+use crate::text::{put_heading, put_part, put_parts, used_new, used_tried};
 use net_addr::put_text;
 use risk_parts::{AddrSet, Lead, Parts, parts_among, put_set};
 use risk_sum::Kind;
@@ -36,6 +37,16 @@ fn put_union_line(parts: &Parts, out: &mut Vec<u8>) -> Result<(), Memory>
 {
     put_text(b"union", out)?;
     put_parts(parts.picks, parts.new, parts.tried, out)?;
+    Ok(())
+}
+
+/// Appends the last line.
+#[tactic(auto, unfolding(crate::specs::SetTexts::ten_line))]
+fn put_ten_line(part: u32, out: &mut Vec<u8>) -> Result<(), Memory>
+    ensures { OnOk result (out.new.items ≡ out.old.items ++ ten_line part) }
+{
+    put_part(b"all ten at most ", part, out)?;
+    put_text(b"\n", out)?;
     Ok(())
 }
 
@@ -84,9 +95,11 @@ fn put_lines(
 }
 
 /// Returns the text of which part of the picks at a time, in seconds since 1970, falls to peers of
-/// each set, and to those of all sets together.
-pub fn sets_text<L: Ledger, H: BuildHasher>(
+/// each set, and to those of all sets together, and which part of the lists of tries opens all
+/// outbound connections to these.
+pub fn sets_text<L: Ledger, H: BuildHasher, G: BuildHasher>(
     alloc: Global,
+    hasher: &G,
     tables: &Tables<'_, H>,
     sets: &[AddrSet],
     now: u32,
@@ -96,6 +109,7 @@ pub fn sets_text<L: Ledger, H: BuildHasher>(
     ensures { IfOk result (λ text. text.items ≡ sets_text tables.now now sets.now) }
 {
     let counts = tables.counts();
+    let part = ten_part(alloc, hasher, tables, sets, now, steps)?;
     let known = known_of(alloc, tables, now, steps)?;
     let mut out = Vec::new(alloc);
     put_heading(
@@ -114,5 +128,6 @@ pub fn sets_text<L: Ledger, H: BuildHasher>(
         sets,
         &mut out,
     )?;
+    put_ten_line(part, &mut out)?;
     Ok(out)
 }

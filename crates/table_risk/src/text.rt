@@ -33,7 +33,7 @@ fn put_four_digits(number: u32, out: &mut Vec<u8>) -> Result<(), Memory>
 
 /// Appends a label and a part of a million in percent, with four digits after the point.
 #[tactic(auto, unfolding(crate::specs::Texts::part_text))]
-fn put_part(label: &[u8], part: u32, out: &mut Vec<u8>) -> Result<(), Memory>
+pub(crate) fn put_part(label: &[u8], part: u32, out: &mut Vec<u8>) -> Result<(), Memory>
     ensures { OnOk result (out.new.items ≡ out.old.items ++ part_text label.now part) }
 {
     put_number(label, u64::from(part / 10_000), out)?;
