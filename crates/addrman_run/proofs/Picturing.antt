@@ -17,9 +17,7 @@ use Rattle.raw_view.proofs.Addresses.{listed-peers}
 use Rattle.table_groups.specs.View.{View, occupant_at}
 use Rattle.addrman_run.proofs.TextOuts.{text_so}
 use Rattle.addrman_run.specs.Listing.{keyless_places}
-use Rattle.addrman_run.specs.Picture.{AreProper, HaveAddresses, IsPicture, by_of, chain_name, picture_for, sets_of}
-use Rattle.arguments.specs.Table.{IsProperRequest}
-use Rattle.arguments.specs.declared.request.Request.TheVariants as request
+use Rattle.addrman_run.specs.Picture.{HaveAddresses, IsPicture, by_of, chain_name, picture_for, sets_of}
 use Rattle.addrman_run.specs.TextOut.{TextOut}
 use Rattle.addrman_run.specs.Views.{IsView, IsViewText, ReportsView, chain_of}
 use Rattle.addrman_run.specs.declared.status.Status.{Status}
@@ -48,12 +46,6 @@ tree-for : (colours : Colours) (chain : Chain) (view : View) → HasPeers view �
 tree-for Plain chain view each have = tree-of-view view (sources-of view each)
 tree-for (By by) chain view each have = tree-by-view (by_of by) (chain_name chain) view (plain-chain chain) each
 tree-for (Marks marks) chain view each have = tree-of-sets (sets_of marks) (chain_name chain) view (plain-chain chain) have
-
--- the colours of a request are proper
-pub proper-colours : (colours : Colours) (from : TablesFrom) → IsProperRequest (request.Picture colours from) → AreProper colours
-proper-colours Plain from is = tt
-proper-colours (By by) from is = tt
-proper-colours (Marks marks) from is = is
 
 -- what is written is a picture, and so the text of a tree
 pub drawn : (colours : Colours) (from : TablesFrom) (past : Option Past) (old new : Option (List ℕ)) (status : Status)

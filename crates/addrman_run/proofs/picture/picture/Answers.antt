@@ -1,6 +1,6 @@
 use Rattle.std.proofs.Common.{◌≡◌, subst}
 use Rattle.peers_file.specs.declared.chain.Chain.{Chain}
-use Rattle.addrman_run.proofs.Picturing.{drawn, proper-colours}
+use Rattle.addrman_run.proofs.Picturing.{drawn}
 use Rattle.addrman_run.specs.Picture.{HaveAddresses, picture_for}
 use Rattle.addrman_run.specs.TextOut.{TextOut}
 use Rattle.addrman_run.specs.Views.{IsViewText, ReportsView}
