@@ -19,7 +19,7 @@ use Rattle.net_addr.specs.declared.net.Net.{Net}
 use Rattle.net_addr.specs.declared.net.Net.TheVariants.{Unroutable, Ipv4, Ipv6, Onion, I2p, Cjdns, Internal}
 use Rattle.picture_laws.proofs.Facts.{plain-hex}
 use Rattle.picture_laws.proofs.Plain.{plain-append, plain-cons, plain-decimal}
-use Rattle.picture_laws.specs.Sets.{HasAddress}
+use Rattle.table_picture.specs.Sets.{HasAddress}
 use Rattle.picture_text.specs.Markup.{IsPlain, is_plain}
 use Rattle.risk_parts.specs.Sets.{set_text}
 use Rattle.risk_parts.specs.declared.addr_set.AddrSet.{AddrSet}

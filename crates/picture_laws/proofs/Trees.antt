@@ -18,7 +18,7 @@ use Rattle.picture_text.specs.Spread.{spread_of}
 use Rattle.picture_laws.proofs.Coloured.{picture-by-tree, sets-tree, spread-tree}
 use Rattle.picture_laws.proofs.Facts.{plain-facts}
 use Rattle.picture_laws.proofs.SetTexts.{plain-sets}
-use Rattle.picture_laws.specs.Sets.{HasAddress}
+use Rattle.table_picture.specs.Sets.{HasAddress}
 use Rattle.risk_parts.specs.Sets.{set_text}
 use Rattle.risk_parts.specs.declared.addr_set.AddrSet.{AddrSet}
 use Rattle.picture_laws.proofs.Markups.{picture-tree}

@@ -1,4 +1,3 @@
 pub mod Slots
 pub mod Counts
 pub mod Dots
-pub mod Sets

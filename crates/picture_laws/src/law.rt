@@ -12,7 +12,7 @@ ghost use Rattle.placing.specs.Places.{group};
 ghost use Rattle.table_machine.specs.Sound.{IsSound};
 ghost use Rattle.table_machine.specs.State.{State};
 ghost use Rattle.picture_text.specs.declared.by.By.{By};
-ghost use Rattle.picture_laws.specs.Sets.{HasAddress};
+ghost use Rattle.table_picture.specs.Sets.{HasAddress};
 ghost use Rattle.risk_parts.specs.declared.addr_set.AddrSet.{AddrSet};
 ghost use Rattle.table_picture.specs.Picture.{picture_by, picture_of, picture_of_sets};
 

@@ -5,3 +5,4 @@ pub mod Marks
 pub mod Slots
 pub mod Picture
 pub mod Inside
+pub mod Sets

@@ -1,6 +1,7 @@
 ghost use Rattle.std.specs.Prelude.{◌≡◌, ◌≤◌, ◌++◌, All, length, map, IfOk, OnOk};
 ghost use Rattle.risk_parts.specs.Sets.{IsProperSet, set_text};
 ghost use Rattle.table_picture.specs.Picture.{picture_of_sets};
+ghost use Rattle.table_picture.specs.Sets.{HasAddress};
 
 use crate::Memory;
 use crate::facts::facts_of;
@@ -13,12 +14,13 @@ use steps::Steps;
 use table_groups::TableView;
 
 /// Returns the text of a set.
-fn set_name(alloc: Global, set: &AddrSet) -> Result<Vec<u8>, Memory>
-    requires { IsProperSet set.now }
-    ensures { IfOk result (λ name. name.items ≡ set_text set.now) }
+fn set_name(alloc: Global, set: AddrSet) -> Result<Vec<u8>, Memory>
+    requires { IsProperSet set }
+    ensures name { IfOk result (λ name. name.items ≡ set_text set) }
+    ensures address { HasAddress set }
 {
     let mut name = Vec::new(alloc);
-    put_set(set, &mut name)?;
+    put_set(&set, &mut name)?;
     Ok(name)
 }
 
@@ -28,10 +30,11 @@ fn set_names(alloc: Global, sets: &[AddrSet]) -> Result<Vec<Vec<u8>>, Memory>
     ensures names { IfOk result (λ names. map (λ v. v.items) names.items
         ≡ map set_text sets.now) }
     ensures long { IfOk result (λ names. length names.items ≡ length sets.now) }
+    ensures addresses { IfOk result (λ _. All HasAddress sets.now) }
 {
     let mut names = Vec::new(alloc);
     for set in sets {
-        names.push(set_name(alloc, set)?)?;
+        names.push(set_name(alloc, *set)?)?;
     }
     Ok(names)
 }
@@ -49,8 +52,9 @@ pub fn put_picture_of_sets<T: TableView, L: Ledger>(
 ) -> Result<(), Memory>
     requires few { length sets.now ≤ 6 }
     requires proper { All IsProperSet sets.now }
-    ensures { OnOk result (out.new.items ≡ out.old.items
+    ensures text { OnOk result (out.new.items ≡ out.old.items
         ++ picture_of_sets sets.now chain.now (T.view tables.now)) }
+    ensures addresses { OnOk result (All HasAddress sets.now) }
 {
     let recs = tables.records(steps)?;
     let facts = facts_of(alloc, chain, recs.items(), tables.places())?;

@@ -1,9 +1,8 @@
 -- The rows are bounds: the set of a group's peers has its parts.
-use Rattle.std.proofs.Common.{◌≡◌, ℕ, ◌+◌, ◌*◌, ◌^◌, ◌≤◌, min, Bool, true, false, cond, ◌&&◌, ◌||◌, ◌==◌, List, map, refl, sym, ap, subst, ◌∙◌, if◌then◌else◌}
+use Rattle.std.proofs.Common.{◌≡◌, ℕ, ◌+◌, ◌*◌, ◌^◌, ◌≤◌, min, Bool, true, false, cond, ◌&&◌, ◌||◌, ◌==◌, List, map, sym, ap, subst, ◌∙◌, if◌then◌else◌}
 use Rattle.net_addr.specs.NetSet.{all}
 use Rattle.net_addr.specs.declared.peer.Peer.{Peer}
 use Rattle.peer_rec.specs.Rec.{chance}
-use Rattle.peer_rec.specs.declared.rec.Rec.{Rec}
 use Rattle.risk_laws.specs.Classes.{chances, kinds_of, starts_for}
 use Rattle.risk_laws.specs.Lists.{searching_lists, selecting_lists}
 use Rattle.risk_laws.proofs.Classed.{sum_filter}

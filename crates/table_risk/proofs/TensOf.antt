@@ -1,5 +1,5 @@
 -- The groups of the peers of some sets, and which part of the lists of tries opens all connections to them.
-use Rattle.std.proofs.Common.{◌≡◌, ℕ, ◌+◌, ◌*◌, ◌^◌, ◌≤◌, ◌<◌, min, Bool, true, false, ◌||◌, ◌==◌, ◌⊎◌, All, List, [], ◌∷◌, ◌++◌, Contains, filter, fold, get_or, length, map, take, refl, sym, ap, subst, ◌∙◌, inl, inr, arith, if◌then◌else◌}
+use Rattle.std.proofs.Common.{◌≡◌, ℕ, ◌+◌, ◌*◌, ◌^◌, ◌≤◌, min, Bool, true, false, ◌||◌, ◌==◌, ◌⊎◌, All, List, [], ◌∷◌, ◌++◌, Contains, filter, fold, map, refl, sym, ap, subst, ◌∙◌, inl, inr, arith, if◌then◌else◌}
 use Rattle.std.specs.Prelude.{bytes_eq, ⊤}
 use Rattle.std.specs.List.{list_any}
 use Rattle.std.proofs.lemmas.List.Elements.{All-cons, All-nil, Contains-append_left, Contains-push}
@@ -16,10 +16,9 @@ use Rattle.risk_parts.specs.declared.addr_set.AddrSet.{AddrSet}
 use Rattle.risk_parts.proofs.BoundsOf.{rounded}
 use Rattle.risk_parts.proofs.Untried.{same_bound}
 use Rattle.risk_tries.specs.TenBound.{group_share, ten_bound, whole_of}
-use Rattle.risk_tries.specs.Tries.{AreGroupsOf, all_theirs}
+use Rattle.risk_tries.specs.Tries.{AreGroupsOf}
 use Rattle.table_groups.specs.Tally.{by_bytes, groups_of, noted, once, with_group}
 use Rattle.table_groups.proofs.Values.{groups-are}
-use Rattle.table_machine.specs.Picks.{wanted_new, wanted_tried}
 use Rattle.table_machine.specs.Sound.{IsSound}
 use Rattle.table_machine.specs.State.{State}
 use Rattle.table_machine.proofs.Lists.{Contains-cases, Contains-filter, Contains-head, Contains-map, Contains-tail, none_in_nil}
@@ -44,12 +43,14 @@ module _ (places : Places) (sets : List AddrSet) where
 
   folded : (recs : List Rec) (es : List (List ℕ × ⊤)) → fold (noted_among places sets) es recs ≡ fold (noted tt last) es (map visit (own recs))
   folded [] es = refl
-  folded (r ∷ recs) es = by (is_among places sets r.peer)
+  folded (r ∷ recs) es = by (is_among places sets r.peer) (folded recs (noted tt last es (visit r))) (folded recs es)
     where
-      by : (b : Bool) → fold (noted_among places sets) (if b then insert_entry bytes_eq es (group places r.peer.addr) tt else es) recs
+      by : (b : Bool) → fold (noted_among places sets) (noted tt last es (visit r)) recs ≡ fold (noted tt last) (noted tt last es (visit r)) (map visit (own recs))
+          → fold (noted_among places sets) es recs ≡ fold (noted tt last) es (map visit (own recs))
+          → fold (noted_among places sets) (if b then insert_entry bytes_eq es (group places r.peer.addr) tt else es) recs
           ≡ fold (noted tt last) es (map visit (if b then r ∷ own recs else own recs))
-      by true = folded recs (noted tt last es (visit r))
-      by false = folded recs es
+      by true more same = more
+      by false more same = same
 
   visit_groups : (recs : List Rec) → map (λ (v : List ℕ × ⊤). v.0) (map visit recs) ≡ map (λ r. group places r.peer.addr) recs
   visit_groups [] = refl
@@ -117,11 +118,11 @@ module _ (st : State) (now : ℕ) (sets : List AddrSet) (sound : IsSound st) whe
 
 any_has : (g : List ℕ) (gs : List (List ℕ)) → list_any (bytes_eq g) gs ≡ true → Contains gs g
 any_has g [] is = absurd (cc)
-any_has g (h ∷ gs) is = by (bytes_eq g h) refl is
+any_has g (h ∷ gs) is = by (bytes_eq g h) refl is (any_has g gs)
   where
-    by : (b : Bool) → bytes_eq g h ≡ b → (b || list_any (bytes_eq g) gs) ≡ true → Contains (h ∷ gs) g
-    by true same is = subst (λ (k : List ℕ). Contains (k ∷ gs) g) ((bytes_eq-Decides g h).0 same) (Contains-head g gs)
-    by false other is = Contains-tail h gs g (any_has g gs is)
+    by : (b : Bool) → bytes_eq g h ≡ b → (b || list_any (bytes_eq g) gs) ≡ true → (list_any (bytes_eq g) gs ≡ true → Contains gs g) → Contains (h ∷ gs) g
+    by true same is later = subst (λ (k : List ℕ). Contains (k ∷ gs) g) ((bytes_eq-Decides g h).0 same) (Contains-head g gs)
+    by false other is later = Contains-tail h gs g (later is)
 
 one_has : (x g : List ℕ) (seen : List (List ℕ)) → Contains seen g → Contains (with_group seen x) g
 one_has x g seen there = by (list_any (bytes_eq x) seen)

@@ -1,4 +1,4 @@
-use Rattle.std.proofs.Common.{◌*◌, ◌^◌}
+use Rattle.std.proofs.Common.{◌^◌}
 use Rattle.risk_parts.specs.Sets.{is_among}
 use Rattle.table_risk.specs.Tens.{groups_among}
 use Rattle.table_risk.proofs.TensOf.{are_groups, in_millionths, same_part}

@@ -1,4 +1,4 @@
-use Rattle.std.proofs.Common.{map, ◌∙◌}
+use Rattle.std.proofs.Common.{◌∙◌}
 use Rattle.indexmap.specs.IndexMap.{keys}
 use Rattle.table_risk.specs.Inside.{side_value}
 use Rattle.table_risk.proofs.TensOf.{part_is, shares_few}

@@ -1,4 +1,4 @@
--- The sets of addresses that a picture marks.
+-- The sets of addresses that a picture marks: each has an address, or is that of an AS.
 use Rattle.std.specs.Prelude.{⊤}
 use Rattle.net_addr.specs.Address.{IsAddress}
 use Rattle.risk_parts.specs.declared.addr_set.AddrSet.{AddrSet}
