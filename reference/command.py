@@ -149,12 +149,10 @@ def tables_options(arguments: list[bytes]) -> FileKind:
 
 
 def grouping_options(arguments: list[bytes]) -> tuple[str, FileKind]:
-    """What makes records one group, and where the tables come from, by the arguments of `risk`."""
-    arguments, core, listed = source_options(arguments)
+    """What makes records one group, and the file of peers, by the arguments of `risk`."""
+    arguments, core = without_core(arguments)
     by = usage(next((own for own in GROUPINGS if arguments[:1] == [own.encode()]), None))
-    if listed:
-        usage()
-    return by, FileKind(chain_option(arguments[1:]), core, listed)
+    return by, FileKind(chain_option(arguments[1:]), core)
 
 
 def marks_in(texts: list[bytes]) -> list:

@@ -417,7 +417,7 @@ done_if (request.Picture colours from) old new answer ends cause fine calm still
 done_if (request.Raw kind) old new answer ends cause fine calm still = text_done _ _ old new answer ends.ends cause fine calm
 done_if (request.Info from) old new answer ends cause fine calm still = text_done _ _ old new answer ends.ends cause fine calm
 done_if (request.Groups from) old new answer ends cause fine calm still = text_done _ _ old new answer ends.ends cause fine calm
-done_if (request.Risk by from) old new answer ends cause fine calm still = risk_done by from old new answer ends cause fine.0 fine.1 calm
+done_if (request.Risk by kind) old new answer ends cause fine calm still = risk_done by kind old new answer ends cause fine.0 fine.1 calm
 done_if (request.FromRaw key kind) old new answer ends cause fine calm still = from_raw_done key kind old new answer ends cause fine calm (still tt)
 done_if (request.Ban rule subnet now until) old new answer ends cause fine calm still = bans_done _ _ old new answer ends cause fine calm
 done_if (request.Unban rule subnet) old new answer ends cause fine calm still = bans_done _ _ old new answer ends cause fine calm

@@ -5,8 +5,6 @@ use Rattle.host_io.specs.Past.{Past}
 use Rattle.arguments.specs.declared.file_kind.FileKind.{FileKind}
 use Rattle.arguments.specs.declared.grouping.Grouping.{Grouping}
 use Rattle.arguments.specs.declared.grouping.Grouping.TheVariants as grouping
-use Rattle.arguments.specs.declared.tables_from.TablesFrom.{TablesFrom}
-use Rattle.arguments.specs.declared.tables_from.TablesFrom.TheVariants.{File, Listing}
 use Rattle.table_machine.specs.State.{State}
 use Rattle.table_risk.specs.Texts.{IsRiskText}
 use Rattle.table_risk.specs.declared.by.By.{By}
@@ -35,8 +33,3 @@ RiskEnds grouping.Sets kind = RiskLinesEnds kind
 abbrev pub AsksNoLog : Grouping → Type 0
 AsksNoLog grouping.Sets = ⊥
 AsksNoLog other = ⊤
-
--- the same of the tables of peers.dat or of a listing
-abbrev pub RiskFromEnds : Grouping → TablesFrom → Outside → Outside → Status → Type 0
-RiskFromEnds by (File kind) = RiskEnds by kind
-RiskFromEnds by (Listing chain) = λ old new answer. ⊤

@@ -40,7 +40,6 @@ mod picture;
 mod replay;
 mod report;
 mod risk;
-mod risk_from;
 mod risk_lines;
 mod show;
 mod status;

@@ -1,16 +1,16 @@
 -- What makes records one group, and the arguments after it.
-use Rattle.std.proofs.Common.{◌≡◌, ◌≢◌, ℕ, List, [], ◌∷◌, codes, drop, find, get_or, inl, inr, Option, Some, refl, sym, ap, subst, ◌∙◌, arith}
+use Rattle.std.proofs.Common.{◌≡◌, ℕ, List, [], ◌∷◌, codes, drop, find, get_or, Option, Some, refl, sym, ap, subst, ◌∙◌, arith}
 use Rattle.std.specs.Prelude.{bytes_eq, unwrap_or}
 use Rattle.peers_file.specs.declared.chain.Chain.{Chain}
 use Rattle.placing.specs.declared.sum.SumRule.{SumRule}
 use Rattle.placing.specs.declared.sum.SumRule.TheVariants.{Bytes}
-use Rattle.arguments.specs.Options.{HasRule, IsAfterGrouping, IsFileOptions, IsNet, IsRaw, grouping_word}
+use Rattle.arguments.specs.Options.{HasRule, IsAfterGrouping, IsFileOptions, IsNet, grouping_word}
 use Rattle.arguments.specs.declared.file_kind.FileKind.{FileKind}
 use Rattle.arguments.specs.declared.grouping.Grouping.{Grouping}
 use Rattle.arguments.specs.declared.grouping.Grouping.TheVariants.{Source, Peer, Network, Sets}
 use Rattle.arguments.specs.declared.grouping.TheConstants.{GROUPINGS}
 use Rattle.arguments.proofs.Choosing.{one_net}
-use Rattle.arguments.proofs.WithCore.{not_read}
+use Rattle.arguments.proofs.WithCore.{not_read, one_kind}
 
 -- the one that a word is found to be
 abbrev pub found_by : List ℕ → Option Grouping
@@ -40,28 +40,25 @@ only_after texts rest word found by r is searched some only other chain (left, b
 
 -- `--core` BEFORE IT
 
-pub one_after : (texts : List (List ℕ)) (x y : Grouping) (a b : Chain) → IsAfterGrouping x texts a → IsAfterGrouping y texts b → (x ≡ y) × (a ≡ b)
+one_after : (texts : List (List ℕ)) (x y : Grouping) (a b : Chain) → IsAfterGrouping x texts a → IsAfterGrouping y texts b → (x ≡ y) × (a ≡ b)
 one_after texts x y a b (rest, is, net) (other, same, also) = (
   one_grouping x y (ap (λ ts. get_or ts 0 []) (sym is ∙ same)),
   one_net other a b (subst (λ ts. IsNet ts a) (ap (drop 1) (sym is ∙ same)) net) also,
 )
 
--- the second byte of no grouping is `-`
-no_dashes : (by : Grouping) → get_or (grouping_word by) 1 0 ≢ 45
-no_dashes Source is = omega (arith, is)
-no_dashes Peer is = omega (arith, is)
-no_dashes Network is = omega (arith, is)
-no_dashes Sets is = omega (arith, is)
-
 -- no grouping begins as `--core` does
-pub apart_grouping : (by : Grouping) (texts rest : List (List ℕ)) (chain : Chain) → texts ≡ codes "--core" ∷ rest → IsAfterGrouping by texts chain → ⊥
-apart_grouping by texts rest chain is (left, begins, net) = no_dashes by (ap (λ t. get_or t 1 0) (ap (λ ts. get_or ts 0 []) (sym begins ∙ is)))
+no_dash : (by : Grouping) → grouping_word by ≡ codes "--core" → ⊥
+no_dash Source is = omega (arith, ap (λ t. get_or t 0 0) is)
+no_dash Peer is = omega (arith, ap (λ t. get_or t 0 0) is)
+no_dash Network is = omega (arith, ap (λ t. get_or t 0 0) is)
+no_dash Sets is = omega (arith, ap (λ t. get_or t 1 0) is)
 
--- nor as `--raw` does
-pub raw_or_grouping : (by : Grouping) (texts rest : List (List ℕ)) (chain : Chain) → IsRaw rest texts → IsAfterGrouping by texts chain → ⊥
-raw_or_grouping by texts rest chain (inl is) (left, begins, net) = no_dashes by (ap (λ t. get_or t 1 0) (ap (λ ts. get_or ts 0 []) (sym begins ∙ is)))
-raw_or_grouping by texts rest chain (inr is) (left, begins, net) = no_dashes by (ap (λ t. get_or t 1 0) (ap (λ ts. get_or ts 0 []) (sym begins ∙ is)))
+apart_after : (by : Grouping) (texts rest : List (List ℕ)) (chain : Chain) → texts ≡ codes "--core" ∷ rest → IsAfterGrouping by texts chain → ⊥
+apart_after by texts rest chain is (left, begins, net) = no_dash by (ap (λ ts. get_or ts 0 []) (sym begins ∙ is))
+
+pub one_grouping_kind : (texts : List (List ℕ)) (x y : Grouping) (a b : FileKind) → IsFileOptions (IsAfterGrouping x) texts a → IsFileOptions (IsAfterGrouping y) texts b → (x ≡ y) × (a ≡ b)
+one_grouping_kind texts x y a b h k = one_kind IsAfterGrouping one_after apart_after texts x y a b h k
 
 pub no_grouping_kind : (words rest : List (List ℕ)) (r : SumRule) → HasRule r rest words → (r ≡ Bytes → (tail : List (List ℕ)) → words ≡ codes "--core" ∷ tail → ⊥)
     → ((by : Grouping) (c : Chain) → IsAfterGrouping by rest c → ⊥) → (by : Grouping) (kind : FileKind) → IsFileOptions (IsAfterGrouping by) words kind → ⊥
-no_grouping_kind words rest r h none never by kind is = not_read IsAfterGrouping one_after apart_grouping words rest r h none never by kind is
+no_grouping_kind words rest r h none never by kind is = not_read IsAfterGrouping one_after apart_after words rest r h none never by kind is

@@ -5,17 +5,14 @@ use Rattle.std.proofs.lemmas.Option.{none-some}
 use Rattle.peers_file.specs.declared.chain.Chain.{Chain}
 use Rattle.placing.specs.declared.sum.SumRule.{SumRule}
 use Rattle.placing.specs.declared.sum.SumRule.TheVariants.{Bytes, Bits}
-use Rattle.arguments.specs.Options.{HasOneInput, HasRule, IsAfterColouring, IsAfterGrouping, IsFileOptions, IsNet, IsRaw, IsRiskOptions, IsTables}
-use Rattle.arguments.specs.Table.{Coloured, Grouped, HasNoValues, Network, Tables, TheKind}
+use Rattle.arguments.specs.Options.{HasRule, IsAfterColouring, IsFileOptions, IsNet, IsRaw, IsTables}
+use Rattle.arguments.specs.Table.{Coloured, HasNoValues, Network, Tables, TheKind}
 use Rattle.arguments.specs.declared.colours.Colours.{Colours}
 use Rattle.arguments.specs.declared.file_kind.FileKind.{FileKind}
-use Rattle.arguments.specs.declared.grouping.Grouping.{Grouping}
-use Rattle.arguments.specs.declared.grouping.Grouping.TheVariants as grouping
 use Rattle.arguments.specs.declared.tables_from.TablesFrom.{TablesFrom}
 use Rattle.arguments.specs.declared.tables_from.TablesFrom.TheVariants.{File, Listing}
 use Rattle.arguments.proofs.Choosing.{one_net, same_start, third_of_none, third_of_raw}
 use Rattle.arguments.proofs.Colourings.{apart_colours, one_colours, raw_or_colours}
-use Rattle.arguments.proofs.Groupings.{apart_grouping, one_after, raw_or_grouping}
 use Rattle.arguments.proofs.Marking.{third_at_most, third_byte}
 use Rattle.arguments.proofs.WithCore.{apart_net, one_kind}
 
@@ -93,30 +90,3 @@ pub no_filed_colours : (texts : List (List ℕ)) → ((rest : List (List ℕ)) �
     → ((x : Colours) (kind : FileKind) → IsFileOptions (IsAfterColouring x) texts kind → ⊥) → HasNoValues Coloured texts
 unfolding HasNoValues
 no_filed_colours texts off none v (x, from, is, tables) = not_filed IsAfterColouring texts off none x from tables
-
--- the groups whose parts are printed are chosen, too
-pub one_risk : (texts : List (List ℕ)) (x y : Grouping) (a b : TablesFrom) → IsRiskOptions x texts a → IsRiskOptions y texts b → (x ≡ y) × (a ≡ b)
-one_risk texts x y a b h k = one_tables IsAfterGrouping one_after apart_grouping raw_or_grouping texts x y a b h.1 k.1
-
-pub no_listed_risk : (texts rest : List (List ℕ)) (r : Option (Grouping × Chain)) → IsRaw rest texts → r ≡ None
-    → ((x : Grouping) (chain : Chain) → IsAfterGrouping x rest chain → r ≡ Some (x, chain)) → HasNoValues Grouped texts
-unfolding HasNoValues
-no_listed_risk texts rest r raw none only v (x, from, is, (input, tables)) =
-    not_listed IsAfterGrouping one_after apart_grouping raw_or_grouping texts rest raw (λ y c chosen. none-some (y, c) (sym none ∙ only y c chosen)) x from tables
-
-pub no_filed_risk : (texts : List (List ℕ)) → ((rest : List (List ℕ)) → IsRaw rest texts → ⊥)
-    → ((x : Grouping) (kind : FileKind) → IsFileOptions (IsAfterGrouping x) texts kind → ⊥) → HasNoValues Grouped texts
-unfolding HasNoValues
-no_filed_risk texts off none v (x, from, is, (input, tables)) = not_filed IsAfterGrouping texts off none x from tables
-
--- sets are not named beside a listing
-named_sets : (x : Grouping) (chain : Chain) → grouping.Sets ≡ x → HasOneInput x (Listing chain) → ⊥
-named_sets x chain is input = subst (λ y. HasOneInput y (Listing chain)) (sym is) input
-
-pub no_sets_listed : (texts rest : List (List ℕ)) (by : Grouping) (chain : Chain) → IsRaw rest texts → by ≡ grouping.Sets → IsAfterGrouping by rest chain → HasNoValues Grouped texts
-unfolding HasNoValues
-no_sets_listed texts rest by chain raw sets read v (x, File kind, is, (input, tables)) =
-    raw_or_file IsAfterGrouping one_after apart_grouping raw_or_grouping texts rest x kind raw tables
-no_sets_listed texts rest by chain raw sets read v (x, Listing c, is, (input, (left, also, after))) =
-    let rests = (same_start (codes "--raw") (codes "-") (codes "-") left rest texts also raw).1 in
-    named_sets x c (sym sets ∙ (one_after rest by x chain c read (subst (λ ts. IsAfterGrouping x ts c) rests after)).0) input

@@ -171,16 +171,6 @@ IsTables IsChosen options (from.File kind) = IsFileOptions IsChosen options kind
 IsTables IsChosen options (from.Listing chain) =
     (rest : List (List ℕ)) × IsRaw rest options × IsChosen rest chain
 
--- standard input has a listing, or the names of sets, and not both
-abbrev pub HasOneInput : Grouping → TablesFrom → Type 0
-HasOneInput Sets (from.Listing chain) = ⊥
-HasOneInput other tables = ⊤
-
--- the arguments ask for groups of the records of tables
-abbrev pub IsRiskOptions : Grouping → List (List ℕ) → TablesFrom → Type 0
-IsRiskOptions by options tables =
-    HasOneInput by tables × IsTables (IsAfterGrouping by) options tables
-
 -- the arguments ask for the records of a file of this kind, or for none
 abbrev pub IsPeersOption : List (List ℕ) → Option FileKind → Type 0
 IsPeersOption options None = options ≡ []

@@ -11,7 +11,7 @@ use Rattle.names.specs.Text.{IsTextOf}
 use Rattle.net_addr.specs.Address.{Address as NetAddress}
 use Rattle.net_addr.specs.declared.peer.Peer.{Peer}
 use Rattle.peers_file.specs.declared.chain.Chain.{Chain}
-use Rattle.arguments.specs.Options.{HasBanRule, HasOneInput, IsAfterAnchors, IsAfterColouring, IsFileOptions, IsListingOptions, IsNet, IsOpeningOptions, IsPeersOption, IsRiskOptions, IsTables}
+use Rattle.arguments.specs.Options.{HasBanRule, IsAfterAnchors, IsAfterColouring, IsAfterGrouping, IsFileOptions, IsListingOptions, IsNet, IsOpeningOptions, IsPeersOption, IsTables}
 use Rattle.arguments.specs.declared.colours.Colours.{Colours}
 use Rattle.arguments.specs.declared.colours.Colours.TheVariants as colours
 use Rattle.arguments.specs.declared.file_kind.FileKind.{FileKind}
@@ -72,11 +72,11 @@ NameCommand texts (Some name) = texts ≡ command_word name ∷ []
 -- What comes after the name of a command: fields of these kinds; the options `--key` and `--net`,
 -- or both of them at least with `--key`; only `--net`; the same, or `--raw -` before it; after these
 -- `--by`, or `--mark` and sets after all; `--net` and `--no-key`, or `--anchors` and `--net`;
--- `--peers` and `--net`, or nothing; what makes records one group, and `--net`, perhaps after
--- `--raw -`; a subnet; a subnet and two times, the earlier one first; fields of these kinds for a
--- list of bans; the name of a command or nothing; `-` or a peer; or `-`, or else what people write
--- for an address. `--magic` with digits may be in the place of `--net`, and `--core` before all
--- options but `--raw`, and before what is for a list of bans.
+-- `--peers` and `--net`, or nothing; what makes records one group, and `--net`; a subnet; a subnet
+-- and two times, the earlier one first; fields of these kinds for a list of bans; the name of a
+-- command or nothing; `-` or a peer; or `-`, or else what people write for an address. `--magic`
+-- with digits may be in the place of `--net`, and `--core` before all options but `--raw`, and
+-- before what is for a list of bans.
 pub data Form : Type 0 where
   Fields : List Kind → Form
   Opening : Form
@@ -105,7 +105,7 @@ pub data Values : Type 0 where
   TheListing : Bool → FileKind → Values
   TheAnchors : Chain → Values
   TheRecords : Option FileKind → Values
-  TheGroups : Grouping → TablesFrom → Values
+  TheGroups : Grouping → FileKind → Values
   TheSubnet : BanRule → Subnet → Values
   ThePeriod : BanRule → Subnet → ℕ → ℕ → Values
   TheBanFields : BanRule → List Value → Values
@@ -149,8 +149,8 @@ Reads Listing texts v =
 Reads Records texts v =
     (peers : Option FileKind) × (v ≡ TheRecords peers) × IsPeersOption texts peers
 Reads Grouped texts v =
-    (by : Grouping) × (from : TablesFrom) × (v ≡ TheGroups by from)
-    × IsRiskOptions by texts from
+    (by : Grouping) × (kind : FileKind) × (v ≡ TheGroups by kind)
+    × IsFileOptions (IsAfterGrouping by) texts kind
 Reads OfSubnet texts v =
     (rule : BanRule) × (rest : List (List ℕ)) × (subnet : Subnet) × (v ≡ TheSubnet rule subnet)
     × HasBanRule rule rest texts × IsSubnetIn rule rest subnet
@@ -219,7 +219,7 @@ name_of (Picture colours from) = name.Picture
 name_of (Raw kind) = name.Raw
 name_of (Info from) = name.Info
 name_of (Groups from) = name.Groups
-name_of (Risk by from) = name.Risk
+name_of (Risk by kind) = name.Risk
 name_of (FromRaw key kind) = name.FromRaw
 name_of (Ban rule subnet now until) = name.Ban
 name_of (Unban rule subnet) = name.Unban
@@ -242,7 +242,7 @@ request_values (Picture colours from) = TheColours colours from
 request_values (Raw kind) = TheKind kind
 request_values (Info from) = TheTables from
 request_values (Groups from) = TheTables from
-request_values (Risk by from) = TheGroups by from
+request_values (Risk by kind) = TheGroups by kind
 request_values (FromRaw key kind) = TheKey key kind
 request_values (Diff peers) = TheRecords peers
 request_values (Ban rule subnet now until) = ThePeriod rule subnet now until
@@ -269,13 +269,12 @@ AreProperSets [] = ⊤
 AreProperSets (None ∷ sets) = AreProperSets sets
 AreProperSets (Some set ∷ sets) = IsProperSet set × AreProperSets sets
 
--- the subnet of a request, if it has one, is proper, and so are the sets of a picture; `risk` takes
--- one thing from standard input at most; a generated log is within its limit
+-- the subnet of a request, if it has one, is proper, and so are the sets of a picture; a generated
+-- log is within its limit
 abbrev pub IsProperRequest : Request → Type 0
 IsProperRequest (Ban rule subnet now until) = IsProper subnet
 IsProperRequest (Unban rule subnet) = IsProper subnet
 IsProperRequest (Gen start lines) = lines ≤ MAX_LINES
 IsProperRequest (Trial start lines) = lines ≤ MAX_LINES
 IsProperRequest (Picture (colours.Marks marks) from) = AreProperSets marks.sets
-IsProperRequest (Risk by from) = HasOneInput by from
 IsProperRequest other = ⊤

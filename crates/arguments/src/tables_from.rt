@@ -1,16 +1,12 @@
 ghost use Rattle.std.specs.Prelude.{◌≡◌, ℕ, List, true, false, map, string_bytes, IfSome, IfNone};
-ghost use Rattle.arguments.specs.Options.{HasOneInput, IsNet, IsRaw, IsTables};
-ghost use Rattle.arguments.specs.Table.{Coloured, Grouped, HasNoValues, Reads, Tables, name_of, request_values};
-ghost use Rattle.arguments.specs.declared.grouping.Grouping.TheVariants.{Sets};
+ghost use Rattle.arguments.specs.Options.{IsNet, IsRaw, IsTables};
+ghost use Rattle.arguments.specs.Table.{Coloured, HasNoValues, Reads, Tables, name_of, request_values};
 ghost use Rattle.arguments.specs.declared.name.CommandName.TheVariants as name;
-ghost use Rattle.arguments.specs.declared.tables_from.TablesFrom.TheVariants as from;
-ghost use Rattle.peers_file.specs.declared.chain.Chain.{Chain};
 
 use crate::colours::read_colours;
-use crate::file_kind::{read_colours_kind, read_file_kind, read_grouping_kind};
-use crate::grouping::read_after_grouping;
+use crate::file_kind::{read_colours_kind, read_file_kind};
 use crate::options::{cut_option, read_net};
-use crate::{FileKind, Grouping, Request};
+use crate::{FileKind, Request};
 use peers_file::Chain;
 
 /// Where the tables come from that a command looks at.
@@ -75,48 +71,6 @@ pub(crate) fn read_picture(words: &[String]) -> Option<Request>
     match read_colours_kind(words) {
         Some((colours, kind)) => Some(Request::Picture {
             colours,
-            from: TablesFrom::File { kind },
-        }),
-        None => None,
-    }
-}
-
-/// Returns `true` if the groups are named in standard input.
-fn reads_names(by: Grouping) -> bool
-    ensures yes { result ≡ true → by ≡ Sets }
-    ensures no_other { result ≡ false → (chain : Chain) → HasOneInput by (from.Listing chain) }
-{
-    match by {
-        Grouping::Sets => true,
-        Grouping::Source => false,
-        Grouping::Peer => false,
-        Grouping::Network => false,
-    }
-}
-
-/// Reads the arguments after `risk`: `--raw -` or `--core` or none of them, and after it what makes
-/// records one group, and the arguments that choose a chain. Standard input has not both a listing
-/// and the lines of `risk -`.
-pub(crate) fn read_risk(words: &[String]) -> Option<Request>
-    ensures found { IfSome result (λ request. (name_of request ≡ name.Risk)
-        × Reads Grouped (map string_bytes words.now) (request_values request)) }
-    ensures none { IfNone result (HasNoValues Grouped (map string_bytes words.now)) }
-{
-    if let Some(rest) = after_raw(words) {
-        let Some((by, chain)) = read_after_grouping(rest) else {
-            return None;
-        };
-        if reads_names(by) {
-            return None;
-        }
-        return Some(Request::Risk {
-            by,
-            from: TablesFrom::Listing { chain },
-        });
-    }
-    match read_grouping_kind(words) {
-        Some((by, kind)) => Some(Request::Risk {
-            by,
             from: TablesFrom::File { kind },
         }),
         None => None,

@@ -1,6 +1,6 @@
 use crate::keyword_fields::{expected_text, explain, unknown_keyword};
 use crate::log_line::{SET, set_text};
-use crate::options::{NO_SUM, explain_options, wrong_option};
+use crate::options::{explain_options, wrong_option};
 use crate::syntax::Reader;
 use arguments::MAX_MARKS;
 use risk_parts::parse_set;
@@ -27,29 +27,17 @@ fn is_flag(form: &str, word: &str) -> bool {
 /// The form of `show` for a file of anchors.
 const ANCHORS_FORM: &str = "show --anchors [--net CHAIN]";
 
-/// Returns the arguments after `--core` or `--raw -`, which come first, and whether they are
-/// `--raw -`.
-fn after_source(words: &[String]) -> (&[String], bool) {
-    match words {
-        [first, rest @ ..] if first.as_str() == "--core" => (rest, false),
-        [first, rest @ ..] if first.as_str() == "--raw=-" => (rest, true),
-        [first, second, rest @ ..] if first.as_str() == "--raw" && second.as_str() == "-" => {
-            (rest, true)
-        }
-        _ => (words, false),
-    }
-}
+/// What is said of `risk` with `--raw`.
+const NO_LISTING: &str = "risk takes no listing: addrman from-raw makes a peers.dat of it";
 
 /// Says which argument of `risk` is wrong: what makes records one group, or an option after it.
-/// `--core` or `--raw -` is before it.
+/// `--core` is before it.
 fn risk_hint(alloc: Global, form: &'static str, words: &[String]) -> Result<String, AllocError> {
-    let (rest, is_listed) = after_source(words);
+    let rest = match words {
+        [first, rest @ ..] if first.as_str() == "--core" => rest,
+        _ => words,
+    };
     match rest {
-        [first, ..] if is_listed && first.as_str() == "--core" => String::from_str(alloc, NO_SUM),
-        [first, ..] if is_listed && first.as_str() == "-" => String::from_str(
-            alloc,
-            "risk -: standard input has the listing after --raw -, and no sets",
-        ),
         [first, options @ ..] if GROUPINGS.contains(&first.as_str()) => {
             explain_options(alloc, form, options)
         }
@@ -139,7 +127,7 @@ static RARE_OPTIONS: [RareOption; 7] = [
     },
     RareOption {
         flag: "--raw",
-        commands: "picture, info, groups and risk",
+        commands: "picture, info and groups",
     },
     RareOption {
         flag: "--by",
@@ -196,6 +184,9 @@ pub fn usage_hint(alloc: Global, words: &[String]) -> Result<String, AllocError>
     }
     if let Some(form) = Reader::Arguments.find_form(command.as_bytes()) {
         if let Some(option) = rare_option(form, rest) {
+            if option.flag == "--raw" && form.starts_with("risk ") {
+                return String::from_str(alloc, NO_LISTING);
+            }
             return format!(in alloc;
                 "{} is no option of {}, but of {}",
                 option.flag,

@@ -81,7 +81,7 @@ impl Name {
 }
 
 /// What is said of `--core` and `--raw -` together.
-pub(crate) const NO_SUM: &str = "--core: not beside --raw, since a listing has no checksum";
+const NO_SUM: &str = "--core: not beside --raw, since a listing has no checksum";
 
 /// Says which of the arguments after the name of a command is wrong. After the name its form has
 /// only options.
