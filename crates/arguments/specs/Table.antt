@@ -73,10 +73,11 @@ NameCommand texts (Some name) = texts ≡ command_word name ∷ []
 -- the same, but never without `--key`; only `--net`; the same, or `--raw -` before it; these with
 -- `--by` before `--net`, or with `--mark` and sets at the end; `--net` and `--no-key`, or
 -- `--anchors` and `--net`; `--peers` and `--net`, or nothing; what makes records one group, and
--- `--net`; a subnet; a subnet and two times, the earlier one first; fields of these kinds for a list
--- of bans; the name of a command or nothing; `-` or a peer; or `-`, or else what people write for an
--- address. `--magic` with digits may be in the place of `--net`. `--core` may be before all options
--- of a file, but not beside `--raw -` or `--anchors`, and before what is for a list of bans.
+-- `--net`; a subnet; a subnet and two times, the earlier one first; fields of these kinds for a
+-- list of bans; the name of a command or nothing; `-` or a peer; or `-`, or else what people write
+-- for an address. `--magic` with digits may be in the place of `--net`. `--core` may be before all
+-- options of a file, but not beside `--raw -` or `--anchors`, and before what is for a list of
+-- bans.
 pub data Form : Type 0 where
   Fields : List Kind → Form
   Opening : Form
