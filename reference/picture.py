@@ -322,7 +322,7 @@ def picture(tables: Tables, by: str | None = None, chain: str = "", core: bool =
     ]
     spread = {own for own in others if by and is_spread(by, slots[own] - tried[own], len(buckets[own]))}
     over = [8 if pair is not None and pair[0] in spread else 0 for pair in at]
-    spread_name = f"of these, spread out: {len(spread)}"
+    spread_name = f"spread groups: {len(spread)}"
     out = [
         head(MEANINGS[by], LISTS[by], facts(tables, chain, core)) if by else plain_head(), titles(marks),
         maps(marks, shown, over, 8, spread_name) if spread else maps(marks, shown),

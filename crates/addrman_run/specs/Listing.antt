@@ -25,7 +25,8 @@ IsRawIn past raw =
     (bytes : List ℕ) × IsFileIn name.Peers MAX_TEXT past bytes × IsRaw bytes raw
 
 -- A listing has no key, and 32 zeros are in its place: nothing that is made of its view depends on
--- a key, only on the asmap.
+-- a key, only on the asmap. The checksum of the asmap, which a picture's title shows, is our own,
+-- also for a listing that `raw --core` or a node printed.
 abbrev pub keyless_places : Option Asmap → Places
 keyless_places map = places_of Bytes (replicate 32 0) map
 

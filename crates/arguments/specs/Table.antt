@@ -69,14 +69,15 @@ abbrev pub NameCommand : List (List ℕ) → Option CommandName → Type 0
 NameCommand texts None = texts ≡ []
 NameCommand texts (Some name) = texts ≡ command_word name ∷ []
 
--- What comes after the name of a command: fields of these kinds; the options `--key` and `--net`,
--- or both of them at least with `--key`; only `--net`; the same, or `--raw -` before it; after these
--- `--by`, or `--mark` and sets after all; `--net` and `--no-key`, or `--anchors` and `--net`;
--- `--peers` and `--net`, or nothing; what makes records one group, and `--net`; a subnet; a subnet
--- and two times, the earlier one first; fields of these kinds for a list of bans; the name of a
--- command or nothing; `-` or a peer; or `-`, or else what people write for an address. `--magic`
--- with digits may be in the place of `--net`, and `--core` before all options but `--raw`, and
--- before what is for a list of bans.
+-- What comes after the name of a command: fields of these kinds; the options `--key` and `--net`;
+-- the same, but never without `--key`; only `--net`; the same, or `--raw -` before it; these with
+-- `--by` before `--net`, or with `--mark` and sets at the end; `--net` and `--no-key`, or
+-- `--anchors` and `--net`; `--peers` and `--net`, or nothing; what makes records one group, and
+-- `--net`; a subnet; a subnet and two times, the earlier one first; fields of these kinds for a
+-- list of bans; the name of a command or nothing; `-` or a peer; or `-`, or else what people write
+-- for an address. `--magic` with digits may be in the place of `--net`. `--core` may be before all
+-- options of a file, but not beside `--raw -` or `--anchors`, and before what is for a list of
+-- bans.
 pub data Form : Type 0 where
   Fields : List Kind → Form
   Opening : Form

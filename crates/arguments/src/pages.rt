@@ -87,8 +87,8 @@ Writes   one SVG: both tables, with the six source groups that have the most slo
 HOW      network, source, group or age: the colours go by the peer's network, the source's
          group, the peer's group, or how much older the peer's time is than the newest one.
 SET      a prefix, as 1.2.0.0/16 or 2001:db8::/32, a whole address, or an AS number, as
-         AS64500. The peers of up to six sets have a colour each, and all others none. They
-         are the last arguments; --mark is not beside --by.
+         AS64500. The peers of up to six sets have a colour each, and all others are grey.
+         The sets are the last arguments; --mark is not beside --by.
 CHAIN    main, test, testnet4, signet or regtest; main if it is left out. In place of
          --net may be --magic and the 8 hexadecimal digits that its files begin with.
 FILE     --peers FILE and --asmap FILE are read in the place of peers.dat and asmap.dat.
@@ -169,8 +169,8 @@ peer     groups them by the peer's own address.
 network  groups them by the network of the peer's address.
 -        reads a line each: a prefix, as 1.2.0.0/16 or 2001:db8::/32, a whole address, or
          an AS number, as AS64500. Writes a line for the peers of each, in this order,
-         one for those of all of them, and in how many restarts all ten outbound
-         connections are to these, at most.
+         one for those of all of them, and which part of lists of tries opens all ten
+         outbound connections to these, at most, if each peer that is picked is reached.
 CHAIN    main, test, testnet4, signet or regtest; main if it is left out. In place of
          --net may be --magic and the 8 hexadecimal digits that its files begin with.
 FILE     --peers FILE and --asmap FILE are read in the place of peers.dat and asmap.dat.

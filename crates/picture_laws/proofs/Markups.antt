@@ -236,7 +236,7 @@ body-markup sources marks names each =
 
 plain-spread : (n : ℕ) → IsPlain (spread_name n)
 unfolding spread_name
-plain-spread n = plain-append (codes "of these, spread out: ") (decimal n) refl (plain-decimal n)
+plain-spread n = plain-append (codes "spread groups: ") (decimal n) refl (plain-decimal n)
 
 plain-honest : (what : By) → IsPlain (honest_text what)
 plain-honest Network = refl

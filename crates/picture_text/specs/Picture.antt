@@ -123,7 +123,7 @@ picture_by_text by facts sources marks names =
 
 -- their name
 unfoldable pub spread_name : ℕ → List ℕ
-spread_name spread = codes "of these, spread out: " ++ decimal spread
+spread_name spread = codes "spread groups: " ++ decimal spread
 
 -- both maps, each with a path of some marks over it
 unfoldable pub maps_with : List ℕ → List (List ℕ) → List ℕ → ℕ → List ℕ → List ℕ

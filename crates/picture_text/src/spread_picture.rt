@@ -63,7 +63,7 @@ fn spread_name(alloc: Global, spread: usize) -> Result<Vec<u8>, Memory>
     ensures { IfOk result (λ name. name.items ≡ spread_name spread) }
 {
     let mut name = Vec::new(alloc);
-    put_number(b"of these, spread out: ", spread as u64, &mut name)?;
+    put_number(b"spread groups: ", spread as u64, &mut name)?;
     Ok(name)
 }
 
