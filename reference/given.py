@@ -115,6 +115,6 @@ def plain_words(arguments: list[str], paths: dict[str, str]) -> list[str]:
     if asks_anchors and "--anchors" in words:
         words.remove("--anchors")
         words.insert(0, "--anchors")
-        if "peers.dat" in paths:
-            words.append(NO_ARGUMENT)
+    if asks_anchors and "peers.dat" in paths:
+        words.append(NO_ARGUMENT)
     return [command, *words]
