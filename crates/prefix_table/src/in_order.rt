@@ -1,4 +1,4 @@
-ghost use Rattle.std.specs.Prelude.{◌≡◌, ◌↔◌, IsTrue, All, AllPairs};
+ghost use Rattle.std.specs.Prelude.{◌≡◌, ◌↔◌, IsTrue, AllPairs};
 ghost use Rattle.prefix_table.specs.Rows.{IsRow, IsTable, Precedes};
 ghost use Rattle.prefix_table.specs.Inside.{precedes};
 
@@ -9,14 +9,7 @@ use crate::{MAX_ASN, MAX_ROWS, Row};
 pub(crate) fn is_table(rows: &[Row]) -> bool
     ensures { IsTrue result ↔ IsTable rows.now }
 {
-    rows.len() <= MAX_ROWS && each_is_row(rows) && rises(rows)
-}
-
-/// Returns `true` if a table may have each of the rows.
-fn each_is_row(rows: &[Row]) -> bool
-    ensures { IsTrue result ↔ All IsRow rows.now }
-{
-    rows.iter().all(|row| is_row(*row))
+    rows.len() <= MAX_ROWS && rows.iter().all(|row| is_row(*row)) && rises(rows)
 }
 
 /// Returns `true` if a table may have the row.

@@ -14,14 +14,14 @@ pub(crate) fn longest_match(rows: &[Row], address: u128) -> Option<Row>
     ensures none { IfNone result ((row : Row) → Contains rows.now row
         → row_covers row address ≡ true → ⊥) }
 {
-    let mut most = 128;
+    let mut max = 128;
     loop {
-        let row = last_up_to(rows, cut(address, most), most)?;
+        let row = last_up_to(rows, cut(address, max), max)?;
         let common = common_bits(address, row.bits);
         if row.len <= common {
             return Some(row);
         }
-        most = common;
+        max = common;
     }
 }
 
