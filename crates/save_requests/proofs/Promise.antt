@@ -71,17 +71,17 @@ module _ (temp name : Name) (apart : temp ≢ name) where
         (appended_reads temp written p mid next reads refl) more)
   ]
 
-  begun : (most : ℕ) (bytes : List ℕ) → 0 < most → (old new : Option Past)
-      → AreCarriedOut temp name (save_requests most bytes) old new → Always old new (PublishesOrNot temp name bytes)
-  begun most bytes some old new carried = elim carried [
+  begun : (max : ℕ) (bytes : List ℕ) → 0 < max → (old new : Option Past)
+      → AreCarriedOut temp name (save_requests max bytes) old new → Always old new (PublishesOrNot temp name bytes)
+  begun max bytes some old new carried = elim carried [
     | inl is ↦ not_written temp name bytes old new apart
         (failed temp (λ _. created) old old new (unchanged temp old) (no_change _ old new is))
     | inr (inl fault) ↦ not_written temp name bytes old new apart
         (failed temp (λ _. created) old old new (unchanged temp old) fault)
     | inr (inr more) ↦
         let next = after (after_create temp) old in
-        subst (λ all. Always old new (PublishesOrNot temp name all)) (whole most bytes some)
-        (appending (pieces most bytes) [] old next new
+        subst (λ all. Always old new (PublishesOrNot temp name all)) (whole max bytes some)
+        (appending (pieces max bytes) [] old next new
         (changed temp (λ _. created) old old next (unchanged temp old) refl)
         (created_reads temp old next refl) more)
   ]
@@ -105,16 +105,16 @@ module _ (temp name : Name) (apart : temp ≢ name) where
       (append_assoc written p (concat ps))
       (pieces_done ps (written ++ p) next (appended_reads temp written p mid next reads refl))
 
-  all_done : (most : ℕ) (bytes : List ℕ) → 0 < most → (old : Option Past)
-      → IfSome (after_all temp name (save_requests most bytes) old) (λ p. IsStored name bytes p.now)
-  all_done most bytes some old =
+  all_done : (max : ℕ) (bytes : List ℕ) → 0 < max → (old : Option Past)
+      → IfSome (after_all temp name (save_requests max bytes) old) (λ p. IsStored name bytes p.now)
+  all_done max bytes some old =
       let next = after (after_create temp) old in
-      subst (λ all. IfSome (after_all temp name (map ask_append (pieces most bytes) ++ ending) next) (λ p. IsStored name all p.now))
-      (whole most bytes some)
-      (pieces_done (pieces most bytes) [] next (created_reads temp old next refl))
+      subst (λ all. IfSome (after_all temp name (map ask_append (pieces max bytes) ++ ending) next) (λ p. IsStored name all p.now))
+      (whole max bytes some)
+      (pieces_done (pieces max bytes) [] next (created_reads temp old next refl))
 
-pub is_safe_save : (most : ℕ) (bytes : List ℕ) → 0 < most → IsSafeSave bytes (save_requests most bytes)
-is_safe_save most bytes some temp name apart = record {
-  any_moment = begun temp name apart most bytes some;
-  stored = all_done temp name apart most bytes some;
+pub is_safe_save : (max : ℕ) (bytes : List ℕ) → 0 < max → IsSafeSave bytes (save_requests max bytes)
+is_safe_save max bytes some temp name apart = record {
+  any_moment = begun temp name apart max bytes some;
+  stored = all_done temp name apart max bytes some;
 }

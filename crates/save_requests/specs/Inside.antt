@@ -8,12 +8,12 @@ use Rattle.save_requests.specs.declared.requests.Stage.TheVariants.{Create, Appe
 
 -- what is asked for from a stage on, with the bytes that are not yet appended
 abbrev pub left_at : Stage → ℕ → List ℕ → List Request
-left_at Create most bytes = save_requests most bytes
-left_at Append most bytes = map ask_append (pieces most bytes) ++ ending
-left_at Sync most bytes = ending
-left_at Rename most bytes = ask request.Rename ∷ ask request.SyncDir ∷ []
-left_at SyncDir most bytes = ask request.SyncDir ∷ []
-left_at Saved most bytes = []
+left_at Create max bytes = save_requests max bytes
+left_at Append max bytes = map ask_append (pieces max bytes) ++ ending
+left_at Sync max bytes = ending
+left_at Rename max bytes = ask request.Rename ∷ ask request.SyncDir ∷ []
+left_at SyncDir max bytes = ask request.SyncDir ∷ []
+left_at Saved max bytes = []
 
 abbrev pub asked_at : Stage → Option SaveRequest
 asked_at Create = Some request.Create
@@ -34,5 +34,5 @@ stage_after Saved left = Saved
 
 -- what is appended at a stage, of the bytes that are not yet appended
 abbrev pub piece_at : Stage → ℕ → List ℕ → List ℕ
-piece_at Append most bytes = take most bytes
-piece_at stage most bytes = []
+piece_at Append max bytes = take max bytes
+piece_at stage max bytes = []

@@ -21,13 +21,13 @@ ask_append bytes = record { what = Append; bytes = bytes }
 -- The bytes in pieces of this many, of which the last may be shorter. There are not more pieces
 -- than the first number.
 abbrev pub pieces_up_to : ℕ → ℕ → List ℕ → List (List ℕ)
-pieces_up_to zero most bytes = []
-pieces_up_to (suc n) most [] = []
-pieces_up_to (suc n) most (b ∷ bytes) =
-    take most (b ∷ bytes) ∷ pieces_up_to n most (drop most (b ∷ bytes))
+pieces_up_to zero max bytes = []
+pieces_up_to (suc n) max [] = []
+pieces_up_to (suc n) max (b ∷ bytes) =
+    take max (b ∷ bytes) ∷ pieces_up_to n max (drop max (b ∷ bytes))
 
 abbrev pub pieces : ℕ → List ℕ → List (List ℕ)
-pieces most bytes = pieces_up_to (length bytes) most bytes
+pieces max bytes = pieces_up_to (length bytes) max bytes
 
 -- what comes after the last piece
 abbrev pub ending : List Request
@@ -35,7 +35,7 @@ ending = ask Sync ∷ ask Rename ∷ ask SyncDir ∷ []
 
 -- the requests of a save
 abbrev pub save_requests : ℕ → List ℕ → List Request
-save_requests most bytes = ask Create ∷ (map ask_append (pieces most bytes) ++ ending)
+save_requests max bytes = ask Create ∷ (map ask_append (pieces max bytes) ++ ending)
 
 -- the first of the requests
 abbrev pub next_of : List Request → Option SaveRequest

@@ -37,7 +37,7 @@ pub(crate) enum Stage {
 #[derive(Drop)]
 pub struct SaveRequests {
     bytes: Bytes,
-    most: usize,
+    max: usize,
     done: usize,
     stage: Stage,
 }
@@ -50,24 +50,24 @@ impl Model for SaveRequests {
 
     ghost Value = { List Request };
 
-    ghost view = { λ s. left_at s.stage s.most (drop s.done s.bytes) };
+    ghost view = { λ s. left_at s.stage s.max (drop s.done s.bytes) };
 
     ghost invariant = { λ s.
-        (0 < s.most) × (s.done ≤ length s.bytes)
+        (0 < s.max) × (s.done ≤ length s.bytes)
         × (s.stage ≡ Append → s.done < length s.bytes) };
 }
 
 impl SaveRequests {
-    /// Begins a save of a file with these bytes, in pieces of at most `most` bytes. No request is
+    /// Begins a save of a file with these bytes, in pieces of at most `max` bytes. No request is
     /// carried out yet.
-    pub fn begin(bytes: Bytes, most: u32) -> SaveRequests
-        requires some { 0 < most }
-        ensures requests { result ≡ save_requests most bytes }
+    pub fn begin(bytes: Bytes, max: u32) -> SaveRequests
+        requires some { 0 < max }
+        ensures requests { result ≡ save_requests max bytes }
         ensures promise { IsSafeSave bytes result }
     {
         SaveRequests {
             bytes,
-            most: most as usize,
+            max: max as usize,
             done: 0,
             stage: Stage::Create,
         }
@@ -84,7 +84,7 @@ impl SaveRequests {
     pub fn bytes(&self) -> &[u8]
         ensures { result.now ≡ piece_of self.now }
     {
-        piece_at(self.stage, &self.bytes.items()[self.done..], self.most)
+        piece_at(self.stage, &self.bytes.items()[self.done..], self.max)
     }
 
     /// Goes on after what was to be done has succeeded.
@@ -92,7 +92,7 @@ impl SaveRequests {
         ensures { self.new ≡ drop 1 self.old }
     {
         let bytes = self.bytes.items();
-        let done = self.done + piece_at(self.stage, &bytes[self.done..], self.most).len();
+        let done = self.done + piece_at(self.stage, &bytes[self.done..], self.max).len();
         self.stage = stage_after(self.stage, bytes.len() - done);
         self.done = done;
     }
@@ -131,16 +131,16 @@ fn stage_after(stage: Stage, left: usize) -> Stage
 }
 
 /// Returns the bytes that are appended next, of those left.
-fn piece_at(stage: Stage, left: &[u8], most: usize) -> &[u8]
-    ensures bytes { result.now ≡ piece_at stage most left.now }
+fn piece_at(stage: Stage, left: &[u8], max: usize) -> &[u8]
+    ensures bytes { result.now ≡ piece_at stage max left.now }
     ensures within { length result.now ≤ length left.now }
 {
     match stage {
         Stage::Append => {
-            if left.len() <= most {
+            if left.len() <= max {
                 left
             } else {
-                &left[..most]
+                &left[..max]
             }
         }
         _ => &[],

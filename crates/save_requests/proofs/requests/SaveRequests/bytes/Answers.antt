@@ -9,7 +9,7 @@ pub returns : goal.returns
 returns c =
     let s = c.self.inside in
     let rest = take_rest c.items.result.now s.done ∙ ap (drop s.done) c.items.ensures in
-    c.piece_at.ensures.bytes ∙ ap (piece_at s.stage s.most) rest
-    ∙ appends s.stage s.most (drop s.done s.bytes) c.self.invariant.0
+    c.piece_at.ensures.bytes ∙ ap (piece_at s.stage s.max) rest
+    ∙ appends s.stage s.max (drop s.done s.bytes) c.self.invariant.0
     (λ is. let there = c.self.invariant.2 is in let cut = length-drop s.done s.bytes in omega (arith, there, cut))
     ∙ ap piece_of c.self.view_is

@@ -12,9 +12,9 @@ returns c =
     let few = ap length rest in
     let cut = length-drop s.done s.bytes in
     let within : next ≤ length s.bytes = omega (arith, c.piece_at.ensures.within, few, cut, c.self.invariant.1) in
-    ap (λ stage. left_at stage s.most (drop next s.bytes))
+    ap (λ stage. left_at stage s.max (drop next s.bytes))
     (c.stage_after-self-inside.ensures ∙ ap (λ (xs : List ℕ). stage_after s.stage (length xs - next)) c.items-bytes.ensures)
-    ∙ goes_on s.stage s.most s.bytes s.done next c.self.invariant.0
+    ∙ goes_on s.stage s.max s.bytes s.done next c.self.invariant.0
     (λ is. let there = c.self.invariant.2 is in omega (arith, there, cut))
-    (ap (λ xs. s.done + length xs) (c.piece_at.ensures.bytes ∙ ap (piece_at s.stage s.most) rest)) within
+    (ap (λ xs. s.done + length xs) (c.piece_at.ensures.bytes ∙ ap (piece_at s.stage s.max) rest)) within
     ∙ ap (drop 1) c.self.view_is
