@@ -20,8 +20,8 @@ pub within : (xs : List ℕ) (start end : ℕ) → start ≤ end → end ≤ len
 within xs start end le inside = omega (arith, length-take end xs)
 
 -- the next elements are as many as there were to read
-pub next_length : (xs : List ℕ) (end n most : ℕ) → end + most ≤ length xs → n ≤ most → length (take n (drop end xs)) ≡ n
-next_length xs end n most room le = omega (arith, length-take n (drop end xs), length-drop end xs)
+pub next_length : (xs : List ℕ) (end n max : ℕ) → end + max ≤ length xs → n ≤ max → length (take n (drop end xs)) ≡ n
+next_length xs end n max room le = omega (arith, length-take n (drop end xs), length-drop end xs)
 
 -- bytes moved from what was left to the end of a part
 pub moves : (old new left : List ℕ) (next : List ℕ) (n : ℕ) → new ≡ old ++ next → next ≡ take n left

@@ -68,10 +68,10 @@ in_piece (b ∷ bytes) piece (l ∷ line) after none is =
     in_piece bytes piece line after (λ k d below. none (suc k) d (omega (arith, below))) (ap (drop 1) is)
 
 -- a piece was read
-pub grown : (old new : List ℕ) (searched taken n most : ℕ) (is_ended : Bool) → IsReader old searched taken is_ended → HasNoFeed old → length old ≤ MAX_LINE
-    → (piece : List ℕ) × (new ≡ old ++ piece) × (length piece ≡ n) → n ≤ most → most ≤ MAX_READ → taken + most ≤ MAX_LOG
+pub grown : (old new : List ℕ) (searched taken n max : ℕ) (is_ended : Bool) → IsReader old searched taken is_ended → HasNoFeed old → length old ≤ MAX_LINE
+    → (piece : List ℕ) × (new ≡ old ++ piece) × (length piece ≡ n) → n ≤ max → max ≤ MAX_READ → taken + max ≤ MAX_LOG
     → IsReader new (length old) (taken + n) (n == 0)
-grown old new searched taken n most is_ended r none short (piece, is, long) le one bound = record {
+grown old new searched taken n max is_ended r none short (piece, is, long) le one bound = record {
   within = omega (arith, ap length is, length-append old piece);
   bound = omega (arith, le, bound);
   no_feed = subst HasNoFeed (sym (ap (take (length old)) is ∙ take-append_seam old piece)) none;

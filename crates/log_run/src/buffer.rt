@@ -58,12 +58,12 @@ impl Buffer {
         self.start += count;
     }
 
-    /// Reads once, at most `most` bytes, and returns how many; 0 is the end. If memory runs out,
+    /// Reads once, at most `max` bytes, and returns how many; 0 is the end. If memory runs out,
     /// nothing is read.
-    pub fn read<L: Source>(&mut self, source: &mut L, most: usize) -> Result<usize, ReadFault>
-        requires some { 0 < most }
-        requires one_read { most ≤ MAX_READ }
-        ensures grown { IfOk result (λ n. (n ≤ most)
+    pub fn read<L: Source>(&mut self, source: &mut L, max: usize) -> Result<usize, ReadFault>
+        requires some { 0 < max }
+        requires one_read { max ≤ MAX_READ }
+        ensures grown { IfOk result (λ n. (n ≤ max)
             × ((piece : List ℕ) × (self.new ≡ self.old ++ piece) × (length piece ≡ n))) }
         ensures moved { OnOk result (MovesBytes (L.left source.old) (L.left source.new)
             self.old self.new) }
@@ -76,10 +76,10 @@ impl Buffer {
             Rose (L.faults source.old) (L.faults source.new) }
         ensures never_falls { L.faults source.old ≤ L.faults source.new }
     {
-        let (start, end) = make_room(&mut self.bytes, self.start, self.end, most)?;
+        let (start, end) = make_room(&mut self.bytes, self.start, self.end, max)?;
         self.start = start;
         self.end = end;
-        let count = read_after(&mut self.bytes, self.end, most, source)?;
+        let count = read_after(&mut self.bytes, self.end, max, source)?;
         self.end += count;
         Ok(count)
     }
@@ -125,18 +125,18 @@ pub(crate) fn make_room(
     Ok((0, used))
 }
 
-/// Reads once into the `most` bytes after `end`, and returns how many bytes it read.
+/// Reads once into the `max` bytes after `end`, and returns how many bytes it read.
 pub(crate) fn read_after<L: Source>(
     bytes: &mut Vec<u8>,
     end: usize,
-    most: usize,
+    max: usize,
     source: &mut L,
 ) -> Result<usize, Failed>
-    requires room { end + most ≤ vec_len bytes.old }
-    requires some { 0 < most }
+    requires room { end + max ≤ vec_len bytes.old }
+    requires some { 0 < max }
     ensures len { vec_len bytes.new ≡ vec_len bytes.old }
     ensures before { take end bytes.new.items ≡ take end bytes.old.items }
-    ensures within { IfOk result (λ n. n ≤ most) }
+    ensures within { IfOk result (λ n. n ≤ max) }
     ensures taken { IfOk result (λ n. IfSome (L.left source.old) (λ left.
         (n ≤ length left) × (L.left source.new ≡ Some (drop n left)))) }
     ensures copied { IfOk result (λ n. IfSome (L.left source.old) (λ left.
@@ -147,5 +147,5 @@ pub(crate) fn read_after<L: Source>(
     ensures cause { OnErr result (Rose (L.faults source.old) (L.faults source.new)) }
     ensures never_falls { L.faults source.old ≤ L.faults source.new }
 {
-    source.read(&mut bytes[end..end + most])
+    source.read(&mut bytes[end..end + max])
 }

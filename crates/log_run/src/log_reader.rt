@@ -104,8 +104,8 @@ impl LogReader {
             Rose (L.faults source.old) (L.faults source.new) }
         ensures never_falls { L.faults source.old ≤ L.faults source.new }
     {
-        let most = MAX_READ.min(MAX_LOG - self.taken);
-        if most == 0 {
+        let max = MAX_READ.min(MAX_LOG - self.taken);
+        if max == 0 {
             let mut byte = [0u8; 1];
             let Ok(count) = source.read(&mut byte) else {
                 return Err(LogFault::Failed);
@@ -117,7 +117,7 @@ impl LogReader {
             return Err(LogFault::LogTooLong);
         }
         let waiting = self.buffer.bytes().len();
-        match self.buffer.read(source, most) {
+        match self.buffer.read(source, max) {
             Ok(count) => {
                 self.searched = waiting;
                 self.taken += count;

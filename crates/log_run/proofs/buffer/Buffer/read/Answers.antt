@@ -13,7 +13,7 @@ returns-clause-grown g c =
         grown c.read_after.new.bytes.items c.make_room.new.bytes.items c.in_ok-start.start c.in_ok-start.end n
             (within c.make_room.new.bytes.items c.in_ok-start.start c.in_ok-start.end c.in_ok-start.ensures.order (omega (arith, c.in_ok-start.ensures.room)))
             c.read_after.ensures.before ∙ ap (λ xs. xs ++ next) (c.in_ok-start.ensures.same ∙ c.self.view_is),
-        next_length c.read_after.new.bytes.items c.in_ok-start.end n c.args.most (omega (arith, c.in_ok-start.ensures.room, c.read_after.ensures.len)) c.in_ok-count.ensures.within,
+        next_length c.read_after.new.bytes.items c.in_ok-start.end n c.args.max (omega (arith, c.in_ok-start.ensures.room, c.read_after.ensures.len)) c.in_ok-count.ensures.within,
       ),
     )
 

@@ -10,4 +10,4 @@ invariant_of-self-in-Ok-read g c =
     (grown c.self.inside.buffer c.read-2.new.self c.self.inside.searched c.self.inside.taken c.in-Ok-read.count _ c.self.inside.is_ended
     c.self.invariant (subst HasNoFeed (sym (ap (λ r. r.waiting) c.self.view_is)) c.requires.none)
     (omega (arith, ap (λ r. length r.waiting) c.self.view_is, c.requires.few)) c.in-Ok-read.ensures.grown.1 c.in-Ok-read.ensures.grown.0
-    (omega (arith, c.min-most.ensures)) (omega (arith, c.min-most.ensures, c.self.invariant.bound)))
+    (omega (arith, c.min-max.ensures)) (omega (arith, c.min-max.ensures, c.self.invariant.bound)))
