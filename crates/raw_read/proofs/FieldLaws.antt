@@ -66,8 +66,8 @@ pub one_raw_name : (local : Bool) (text : List ℕ) → IsUnique (IsRawName loca
 one_raw_name false text = one_name text
 one_raw_name true text = one_of (IsPlainText text) (IsName text) (one_plain text) (one_name text)
 
-one_number : (name : List ℕ) (most m n : ℕ) (j : Json) → most < 2 ^ 64 → IsNumberAt name most j m → IsNumberAt name most j n → m ≡ n
-one_number name most m n j few h k =
+one_number : (name : List ℕ) (max m n : ℕ) (j : Json) → max < 2 ^ 64 → IsNumberAt name max j m → IsNumberAt name max j n → m ≡ n
+one_number name max m n j few h k =
     decimal_injective m n (omega (arith, few, h.below)) (omega (arith, few, k.below)) (same_some (decimal m) (decimal n) (sym h.digits ∙ k.digits))
 
 one_address_at : (name network : List ℕ) (j : Json) → IsUnique (IsAddressAt name network j)

@@ -19,8 +19,8 @@ abbrev pub text_at : List ℕ → Json → Option (List ℕ)
 text_at name j = option_and_then as_str (get name j)
 
 -- The number under a name, at most this one: decimal digits, with no sign, point or exponent.
-pub record IsNumberAt (name : List ℕ) (most : ℕ) (j : Json) (n : ℕ) : Type 0 where
-  pub below : n ≤ most
+pub record IsNumberAt (name : List ℕ) (max : ℕ) (j : Json) (n : ℕ) : Type 0 where
+  pub below : n ≤ max
   pub digits : option_and_then as_number (get name j) ≡ Some (decimal n)
 
 -- the address is said not to be routable

@@ -1,10 +1,8 @@
-ghost use Rattle.std.specs.Prelude.{◌≡◌, ◌≢◌, ◌⊎◌, ℕ, List, map, codes, length, Ok, Err, Some, IfOk, IfErr, option_map, option_and_then};
+ghost use Rattle.std.specs.Prelude.{◌≡◌, ◌≢◌, ◌⊎◌, Ok, Err, Some, IfOk, IfErr, option_map, option_and_then};
 ghost use Rattle.json.specs.Find.{get, as_object};
 ghost use Rattle.json.specs.Json.{Json};
 ghost use Rattle.json.specs.Value.{members_view, value_view};
-ghost use Rattle.raw_read.specs.Inside.{member_view};
-ghost use Rattle.raw_read.specs.Raw.{HasRawFault, HasTables, IsJson, IsRaw, IsWithoutEnd};
-ghost use Rattle.raw_read.specs.Rows.{Member};
+ghost use Rattle.raw_read.specs.Raw.{HasRawFault, IsJson, IsRaw, IsWithoutEnd};
 ghost use Rattle.raw_read.specs.declared.raw.RawFault.{RawFault};
 ghost use Rattle.raw_read.specs.declared.raw.RawFault.TheVariants as faults;
 ghost use Rattle.raw_read.specs.declared.read.TheConstants.{MAX_TEXT};

@@ -1,6 +1,6 @@
-ghost use Rattle.std.specs.Prelude.{◌≡◌, ◌≤◌, ◌^◌, ℕ, Bool, IfSome, IfNone, IfOk, IfErr, Some, option_map};
+ghost use Rattle.std.specs.Prelude.{◌≡◌, ℕ, IfSome, IfNone, IfOk, IfErr, Some, option_map};
 ghost use Rattle.json.specs.Value.{value_view};
-ghost use Rattle.net_addr.specs.Address.{Address, IsAddress};
+ghost use Rattle.net_addr.specs.Address.{Address};
 ghost use Rattle.raw_read.specs.Fields.{IsAddressAt, IsNumberAt, IsPlainText, IsRawName, IsRec, Lacks, is_local, text_at};
 
 use crate::Field;
@@ -16,13 +16,13 @@ fn text_at<'a>(value: &Value<'a>, name: &str) -> Option<&'a str>
     value.get(name)?.as_str()
 }
 
-/// Returns the number under a name, if it is at most `most`.
-fn number_at(value: &Value<'_>, name: &str, most: u64) -> Option<u64>
-    ensures found { IfSome result (IsNumberAt name.now most (value_view value.now)) }
-    ensures none { IfNone result ((n : ℕ) → ¬ IsNumberAt name.now most (value_view value.now) n) }
+/// Returns the number under a name, if it is at most `max`.
+fn number_at(value: &Value<'_>, name: &str, max: u64) -> Option<u64>
+    ensures found { IfSome result (IsNumberAt name.now max (value_view value.now)) }
+    ensures none { IfNone result ((n : ℕ) → ¬ IsNumberAt name.now max (value_view value.now) n) }
 {
     let digits = value.get(name)?.as_number()?;
-    parse_number(digits.as_bytes(), most)
+    parse_number(digits.as_bytes(), max)
 }
 
 /// Returns `true` if the network of an address says that it is not routable.

@@ -1,7 +1,6 @@
-ghost use Rattle.std.specs.Prelude.{◌≡◌, ◌≤◌, ◌<◌, ◌+◌, ◌*◌, ℕ, IfSome, Some, ◌≢◌, List, map, length, IfOk, IfErr, true, false};
+ghost use Rattle.std.specs.Prelude.{◌≡◌, ◌≤◌, ◌<◌, ◌+◌, ◌*◌, ℕ, IfSome, Some, ◌≢◌, map, IfOk, IfErr};
 ghost use Rattle.slot_grid.specs.declared.sizes.TheConstants.{SLOTS};
-ghost use Rattle.raw_read.specs.Rows.{IsSlot, slot_number, AreRows, HasRowFault, HasTableFault, IsRow, next_slot};
-ghost use Rattle.std.specs.Borrow.{Bor};
+ghost use Rattle.raw_read.specs.Rows.{IsSlot, slot_number, AreRows, HasRowFault, HasTableFault, IsRow};
 ghost use Rattle.json.specs.Json.{Json};
 ghost use Rattle.json.specs.Value.{value_view};
 ghost use Rattle.raw_read.specs.Inside.{member_view};
