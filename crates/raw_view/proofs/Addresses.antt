@@ -1,5 +1,5 @@
 -- The records of a listing have addresses.
-use Rattle.std.proofs.Common.{◌≡◌, ℕ, ◌+◌, ◌==◌, Bool, true, false, List, [], ◌∷◌, length, Option, Some, None, refl, sym, ap, subst, arith, inl, inr}
+use Rattle.std.proofs.Common.{ℕ, ◌+◌, ◌==◌, Bool, true, false, List, [], ◌∷◌, length, Option, Some, None, refl, sym, ap, subst, arith, inl, inr}
 use Rattle.std.specs.Prelude.{IfSome, if◌then◌else◌, option_map, slice_index, ⊤}
 use Rattle.std.specs.Int.{w32, w128, to_be_bytes}
 use Rattle.names.specs.Name.{IsName, flipped}

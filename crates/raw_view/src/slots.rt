@@ -1,7 +1,7 @@
-ghost use Rattle.std.specs.Prelude.{◌≡◌, ◌<◌, ◌*◌, length, replicate, IfOk, None, option_map};
+ghost use Rattle.std.specs.Prelude.{◌≡◌, ◌<◌, ◌*◌, replicate, IfOk, None, option_map};
 ghost use Rattle.raw_read.specs.Rows.{buckets_of, slot_number};
 ghost use Rattle.raw_view.specs.Inside.{AreIn};
-ghost use Rattle.raw_view.specs.Listed.{place_of, rec_of, slot_in, slots_of, with_slot};
+ghost use Rattle.raw_view.specs.Listed.{place_of, rec_of, slot_in, slots_of};
 ghost use Rattle.slot_grid.specs.declared.sizes.TheConstants.{SLOTS};
 
 use net_addr::Memory;
@@ -66,14 +66,6 @@ fn no_slots(alloc: Global, count: usize) -> Result<Vec<Option<Rec>>, Memory>
     Ok(slots)
 }
 
-/// Puts the record of a row in its slot.
-fn put_row(table: RawTable, slots: &mut [Option<Rec>], row: &RawRow)
-    requires { slot_number row.now.bucket row.now.position < length slots.old }
-    ensures { slots.new ≡ with_slot table slots.old row.now }
-{
-    slots[slot_number(row.bucket, row.position)] = Some(rec_of(table, row));
-}
-
 /// Returns the slots of a table with these rows.
 pub(crate) fn slots_of(
     alloc: Global,
@@ -86,7 +78,7 @@ pub(crate) fn slots_of(
     let mut slots = no_slots(alloc, slot_count(table))?;
     let mut rest = rows;
     while let [row, after @ ..] = rest {
-        put_row(table, slots.as_mut_slice(), row);
+        slots[slot_number(row.bucket, row.position)] = Some(rec_of(table, row));
         rest = after;
     }
     Ok(slots)

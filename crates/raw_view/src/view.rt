@@ -5,10 +5,9 @@ ghost use Rattle.raw_read.specs.Raw.{HasRawFault, IsRaw};
 ghost use Rattle.raw_read.specs.declared.raw.RawFault.TheVariants as faults;
 ghost use Rattle.raw_read.specs.declared.raw.Raw.{Raw};
 ghost use Rattle.raw_view.specs.Listed.{tables_of, view_by, rec_of, row_in, slot_in, slots_of, view_of};
-ghost use Rattle.raw_read.specs.Rows.{AreRows, Member, buckets_of, slot_number};
+ghost use Rattle.raw_read.specs.Rows.{AreRows, Member, slot_number};
 ghost use Rattle.raw_read.specs.declared.raw.RawRow.{RawRow};
 ghost use Rattle.raw_read.specs.declared.raw.RawTable.{RawTable};
-ghost use Rattle.slot_grid.specs.declared.sizes.TheConstants.{SLOTS};
 ghost use Rattle.table_groups.specs.View.{occupant_at};
 
 use crate::Memory;
