@@ -1,4 +1,4 @@
-ghost use Rattle.std.specs.Prelude.{◌≡◌, ◌++◌, codes, decimal, IfOk};
+ghost use Rattle.std.specs.Prelude.{◌≡◌, IfOk};
 ghost use Rattle.raw_file.specs.FaultTexts.{field_word, listing_fault_text, member_text, raw_fault_text, slot_text, table_word};
 ghost use Rattle.raw_file.specs.declared.fault.ListingFault.TheVariants as fault;
 

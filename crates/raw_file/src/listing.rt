@@ -24,7 +24,8 @@ fn snapshot_of(
     ensures none { OnOk result (first_fault raw.now ≡ None) }
     ensures snapshot { IfOk result (λ snap. snap ≡ snapshot_of key sum raw.now) }
     ensures few_listed { IfOk result (λ snap. length snap.listed ≤ NEW_BUCKETS * SLOTS) }
-    ensures cause { IfErr result (λ fault. fault ≢ faults.Memory → first_fault raw.now ≡ Some fault) }
+    ensures cause { IfErr result (λ fault.
+        fault ≢ faults.Memory → first_fault raw.now ≡ Some fault) }
 {
     let rows = raw.new.items();
     let tried_rows = raw.tried.items();
@@ -63,7 +64,8 @@ pub fn read_listing(
     sum: [u8; 32],
 ) -> Result<Snapshot, ListingFault>
     ensures found { IfOk result (IsListing key sum bytes.now) }
-    ensures cause { IfErr result (λ fault. fault ≢ faults.Memory → HasListingFault bytes.now fault) }
+    ensures cause { IfErr result (λ fault.
+        fault ≢ faults.Memory → HasListingFault bytes.now fault) }
     ensures buckets { IfOk result (λ snap. snap.bucket_count ≡ NEW_BUCKETS) }
     ensures few_listed { IfOk result (λ snap. length snap.listed ≤ NEW_BUCKETS * SLOTS) }
 {
