@@ -1,7 +1,7 @@
 ghost use Rattle.std.specs.Prelude.{◌≡◌, ◌++◌, codes, take, vec_len, IfOk, OnOk, OnErr};
 ghost use Rattle.std.specs.List.{flat_map};
 ghost use Rattle.net_addr.specs.Text.{peer_text};
-ghost use Rattle.log_lines.specs.Replies.{numbers_text, place_text, origin_text, seen_text, tries_text, rec_text, found_text, fault_text, good_text, known_text, timed_text, picked_text, size_text, resolved_text, sample_text, clash_text, dump_text, reply_line, reply_text};
+ghost use Rattle.log_lines.specs.Replies.{numbers_text, place_text, origin_text, seen_text, tries_text, rec_text, found_text, fault_text, good_text, timed_text, picked_text, size_text, resolved_text, sample_text, clash_text, dump_text, reply_line, reply_text};
 
 use crate::{Memory, Reply};
 use addr_codecs::MsgFault;
@@ -69,7 +69,7 @@ fn put_line(reply: &Reply, out: &mut Vec<u8>) -> Result<(), Memory>
             put_number(b" ", u64::from(*have), out)
         }
         Reply::Good(good) => put_text(good_word(good), out),
-        Reply::Known(known) => put_text(known_word(*known), out),
+        Reply::Known(known) => put_text(if *known { b"ok" } else { b"unknown" }, out),
         Reply::Found(found) => put_found(found, out),
         Reply::Size(counts) => put_size(counts, out),
         Reply::Picked(picked) => put_picked(picked, out),
@@ -111,13 +111,6 @@ fn good_word(good: &Good) -> &'static [u8]
         Good::Clash => b"clash",
         Good::Moved => b"moved",
     }
-}
-
-/// Returns the text that says whether a peer is known.
-fn known_word(known: bool) -> &'static [u8]
-    ensures { result.now ≡ known_text known }
-{
-    if known { b"ok" } else { b"unknown" }
 }
 
 /// Appends the peer's record, if there is one.
