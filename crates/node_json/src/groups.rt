@@ -120,13 +120,6 @@ fn is_clearnet(rec: &Rec) -> bool
     is_clearnet_class(rec.peer.addr.net_class())
 }
 
-/// Returns the AS number of a record's address, 0 if it has none.
-fn number_of(placer: &Placer<'_>, rec: &Rec) -> u32
-    ensures { result ≡ asn placer.now.map rec.now.peer.addr }
-{
-    placer.asn(&rec.peer.addr)
-}
-
 /// Returns the AS numbers of the records whose addresses an asmap can map.
 fn clearnet_numbers(
     alloc: Global,
@@ -138,7 +131,7 @@ fn clearnet_numbers(
 {
     recs.iter()
         .filter(|rec| is_clearnet(rec))
-        .map(|rec| number_of(placer, rec))
+        .map(|rec| placer.asn(&rec.peer.addr))
         .collect(alloc)
 }
 

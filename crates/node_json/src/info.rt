@@ -28,19 +28,12 @@ fn put_row(json: &mut Pretty, name: &str, new: u32, tried: u32) -> Result<(), Al
     Ok(())
 }
 
-/// Returns the set of one network.
-fn only(net: Net) -> NetSet
-    ensures { result ≡ with_net none net }
-{
-    NetSet::none().with(net)
-}
-
 /// Returns how many records of the new and of the tried table are of the network.
 fn counts_of<T: TableView>(tables: &T, net: Net) -> (u32, u32)
     ensures new { result.0 ≡ wanted_new (T.view tables.now) (with_net none net) }
     ensures tried { result.1 ≡ wanted_tried (T.view tables.now) (with_net none net) }
 {
-    tables.wanted_in(only(net))
+    tables.wanted_in(NetSet::none().with(net))
 }
 
 /// Appends the row of a network.

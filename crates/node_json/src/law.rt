@@ -32,6 +32,6 @@ pub fn groups_are_listed()
 
 /// Of the records that an asmap can map, those without an AS number and those with one are all.
 pub fn numbers_add_up()
-    ensures { (numbers : List ℕ) → count_by (λ n. n == 0) numbers + count_by (λ n. not (n == 0)) numbers
-        ≡ length numbers }
+    ensures { (numbers : List ℕ) → count_by (λ n. n == 0) numbers
+        + count_by (λ n. not (n == 0)) numbers ≡ length numbers }
 {}

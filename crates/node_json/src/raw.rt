@@ -1,7 +1,5 @@
 ghost use Rattle.std.specs.Prelude.{◌≡◌, ◌<◌, [], ◌∷◌, ◌++◌, IfOk, OnOk, option_map, Some};
-ghost use Rattle.std.specs.String.{string_bytes};
 ghost use Rattle.json.specs.Json.{string};
-ghost use Rattle.json.specs.Token.{begin_object, end_object, key};
 ghost use Rattle.json.specs.Tree.{json_tokens};
 ghost use Rattle.slot_grid.specs.declared.sizes.TheConstants.{SLOTS};
 ghost use Rattle.node_json.specs.Inside.{peer_tokens, source_tokens, tokens_of};
