@@ -141,7 +141,8 @@ tried_bucket places peer = group_bucket places (group places peer.addr) (group_c
 -- the slot of a peer in a bucket; the letter of the table is N for new and K for tried
 abbrev pub slot : ℕ → Places → Peer → ℕ → ℕ
 slot letter places peer bucket =
-    hash_of (places.key ∷ (letter ∷ []) ∷ to_le_bytes w32 bucket ∷ sized (key_bytes peer) ∷ []) % SLOTS
+    hash_of (places.key ∷ (letter ∷ []) ∷ to_le_bytes w32 bucket ∷ sized (key_bytes peer) ∷ [])
+    % SLOTS
 
 unfoldable pub new_slot : Places → Peer → ℕ → ℕ
 new_slot places peer bucket = slot 0x4e places peer bucket

@@ -1,4 +1,4 @@
-ghost use Rattle.std.specs.Prelude.{◌≡◌, ℕ, ◌<◌, ◌≤◌, ◌^◌, List, ◌++◌, length, map};
+ghost use Rattle.std.specs.Prelude.{◌≡◌, ℕ, ◌<◌, ◌^◌, List, ◌++◌, map};
 ghost use Rattle.std.specs.Int.{from_bool};
 ghost use Rattle.bit_code.specs.Coder.{has_bit, low_digits};
 ghost use Rattle.asmap_vm.specs.Held.{bytes_held};
