@@ -50,7 +50,7 @@ pub fn keys_are_apart()
         answer_at key now (after_asks kept asks) ≡ answer_at key now kept }
 {}
 
-/// An answer is empty, for want of room, or all of what one request of its key, this one or an
+/// An answer is empty, if there is no room, or all of what one request of its key, this one or an
 /// earlier one, was given as a sample. Entries of two samples are never in one answer.
 pub fn answers_are_samples()
     ensures { (asks : List Ask) (ask : Ask) →

@@ -57,7 +57,7 @@ pub fn shares_are_enclosed()
 
 /// Of the lists of n random words of 64 bits, for each n, at most this part selects a peer of a
 /// set: in a search of one table, and in a pick from both, from the new table only, and from the
-/// tried table alone. Of the rounds of a table, `busy`, `new` or `tried` have a candidate.
+/// tried table only. Of the rounds of a table, `busy`, `new` or `tried` have a candidate.
 pub fn picks_are_enclosed()
     ensures search { (st : State) (in_new : Bool) (nets : List ℕ)
         (now unit busy ahead n factor : ℕ) (theirs : Peer → Bool) → IsSound st → 0 < busy →

@@ -69,7 +69,7 @@ with_theirs some in_new k = record {
 abbrev pub among : List Lead → List AddrSet → List Lead
 among leads sets = filter (has_lead sets) leads
 
--- what the kinds of a table and the records in some sets have to meet
+-- what holds of the kinds of a table and of the records in some sets
 pub record FitsSets (leads : List Lead) (in_new : Bool) (kinds : List Kind) (wanted : ℕ)
     (sets : List AddrSet) : Type 0 where
   pub few : length kinds ≤ 18

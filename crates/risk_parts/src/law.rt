@@ -22,7 +22,7 @@ pub fn limits()
 
 /// Of the (2^64)^n lists of n random words, for every n, `select` returns a peer of a set for at
 /// most the part that its parts say, in parts of a million: from both tables, or from the new one
-/// alone. A search of the tried table ends at one for at most the part `tried`.
+/// only. A search of the tried table ends at one for at most the part `tried`.
 pub fn parts_are_bounds()
     ensures picks { (st : State) (now n : ℕ) (theirs : Peer → Bool) → IsSound st →
         selecting_lists st false all now theirs n * 10 ^ 6

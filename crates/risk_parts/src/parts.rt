@@ -20,7 +20,7 @@ pub const WHOLE: u128 = 18_446_744_073_709_551_616;
 pub const MILLION: u128 = 1_000_000;
 
 /// Which part falls to some records, at most, of the picks from both tables, of those from the new
-/// table alone, and of the searches of the tried table, in parts of a million.
+/// table only, and of the searches of the tried table, in parts of a million.
 #[derive(Clone, Copy, Debug, PartialEq, Eq)]
 pub struct Parts {
     pub picks: u32,
