@@ -48,8 +48,8 @@ pub fn sample<H: BuildHasher, R: Rng>(
     }
 }
 
-/// Samples records, terrible ones among them, of these classes: at most `max`, and at most `percent`
-/// percent of all records. A limit of 0 is none, and so are 100 percent and more
+/// Samples records, terrible ones among them, of these classes: at most `max`, and at most
+/// `percent` percent of all records. A limit of 0 is none, and so are 100 percent and more
 /// (`node_calls::sample_unfiltered`). Draws a word for each record.
 pub fn sample_unfiltered<H: BuildHasher, R: Rng>(
     alloc: Global,

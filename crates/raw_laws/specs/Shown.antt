@@ -12,5 +12,6 @@ printed_at view in_new bucket slot = option_map printed_rec (occupant_at view in
 
 -- in both views each slot of both tables has a record of which the same is printed, or none
 abbrev pub HaveSameSlots : View → View → Type 0
-HaveSameSlots a b = (in_new : Bool) (bucket slot : ℕ) → bucket < bucket_count in_new → slot < SLOTS →
+HaveSameSlots a b =
+    (in_new : Bool) (bucket slot : ℕ) → bucket < bucket_count in_new → slot < SLOTS →
     printed_at a in_new bucket slot ≡ printed_at b in_new bucket slot

@@ -1,4 +1,4 @@
--- How many lists of tries open connections to peers of a set alone. Each try picks a peer by random
+-- How many lists of tries open connections only to peers of a set. Each try picks a peer by random
 -- words of its own (`CConnman::ThreadOpenConnections` in net.cpp of Bitcoin Core).
 use Rattle.std.specs.Prelude.{◌≡◌, ℕ, zero, suc, ◌^◌, Contains, List, [], ◌∷◌, Bool, true, false, ◌&&◌, if◌then◌else◌}
 use Rattle.net_addr.specs.NetSet.{all}
@@ -31,8 +31,8 @@ takes_theirs st now theirs (suc count) open_peers [] = false
 takes_theirs st now theirs (suc count) open_peers (words ∷ tries) =
     after_pick (select st false all words now) (is_same_group st open_peers)
     (takes_theirs st now theirs (suc count) open_peers tries)
-    (λ peer. theirs peer
-    && takes_theirs st now theirs count (with_peer peer (group st.places peer.addr) open_peers) tries)
+    (λ peer. theirs peer && takes_theirs st now theirs count
+    (with_peer peer (group st.places peer.addr) open_peers) tries)
 
 -- the sum of f over all lists of m tries, each of n words below `size`
 abbrev pub sum_tries : ℕ → ℕ → ℕ → (List (List ℕ) → ℕ) → ℕ

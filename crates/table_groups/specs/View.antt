@@ -7,8 +7,8 @@ use Rattle.placing.specs.Places.{Places}
 use Rattle.table_machine.specs.Picks.{is_wanted}
 use Rattle.table_machine.specs.State.{State, new_rec_at, tried_rec_at}
 
--- What groups are computed by (`places`: they depend on its asmap, and not on its key), the records,
--- and the record in a slot of a bucket of either table.
+-- What groups are computed by (`places`: they depend on its asmap, and not on its key), the
+-- records, and the record in a slot of a bucket of either table.
 pub record View : Type 0 where
   pub places : Places
   pub records : List Rec

@@ -48,4 +48,5 @@ two_digits n = (48 + n / 10 % 10) ∷ (48 + n % 10) ∷ []
 
 -- `2009-01-03`
 unfoldable pub date_text : Date → List ℕ
-date_text d = decimal d.year ++ (codes "-" ++ (two_digits d.month ++ (codes "-" ++ two_digits d.day)))
+date_text d =
+    decimal d.year ++ (codes "-" ++ (two_digits d.month ++ (codes "-" ++ two_digits d.day)))

@@ -10,7 +10,8 @@ use Rattle.table_groups.specs.declared.sources.Source.{Source}
 
 -- the marks of groups, with 8 for one that spreads
 abbrev pub with_spread : By → List (List ℕ × ℕ) → Source → List (List ℕ × ℕ)
-with_spread by marks s = if is_spread by s then insert_entry bytes_eq marks s.group.items 8 else marks
+with_spread by marks s =
+    if is_spread by s then insert_entry bytes_eq marks s.group.items 8 else marks
 
 -- the mark of a slot by the marks of some groups, 0 for any other group
 abbrev pub spread_by : Places → List (List ℕ × ℕ) → Option Rec → ℕ
