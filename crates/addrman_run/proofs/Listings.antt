@@ -3,7 +3,6 @@ use Rattle.std.proofs.Common.{ℕ, List, refl, inl, inr}
 use Rattle.std.specs.Prelude.{◌⊎◌, Option}
 use Rattle.host_io.specs.Past.{Past}
 use Rattle.raw_file.specs.declared.fault.ListingFault.TheVariants.{Text}
-use Rattle.raw_read.specs.Raw.{HasMemberFault, HasRawFault}
 use Rattle.raw_read.specs.Rows.{AreRows, HasTableFault, Member}
 use Rattle.raw_read.specs.declared.raw.RawFault.TheVariants as raw
 use Rattle.raw_read.specs.declared.raw.RawRow.{RawRow}

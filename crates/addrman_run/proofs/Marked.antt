@@ -1,5 +1,5 @@
 -- The sets that a picture marks.
-use Rattle.std.proofs.Common.{◌≡◌, ℕ, zero, suc, ◌+◌, ◌≤◌, All, List, [], ◌∷◌, ◌++◌, length, arith}
+use Rattle.std.proofs.Common.{zero, suc, ◌≤◌, All, List, [], ◌∷◌, length, arith}
 use Rattle.std.specs.List.{flat_map}
 use Rattle.std.specs.Prelude.{Option, Some, None}
 use Rattle.arguments.specs.Table.{AreProperSets}

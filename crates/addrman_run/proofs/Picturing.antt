@@ -1,5 +1,5 @@
 -- What a picture writes, by how it ends.
-use Rattle.std.proofs.Common.{◌≡◌, ℕ, List, Bool, true, false, refl, sym, subst}
+use Rattle.std.proofs.Common.{◌≡◌, ℕ, List, refl, sym, subst}
 use Rattle.std.specs.Prelude.{IfSome, Option, Some, None, codes}
 use Rattle.host_io.specs.Past.{Past}
 use Rattle.arguments.specs.declared.colours.Colours.{Colours}

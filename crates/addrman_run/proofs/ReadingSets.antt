@@ -1,6 +1,6 @@
 -- What has been read of a log that names sets, and what is written then.
 use Rattle.std.proofs.Common.{◌≡◌, ◌⊎◌, ℕ, List, [], ◌∷◌, ◌++◌, refl, sym, ap, ◌∙◌, subst, inl, inr}
-use Rattle.std.specs.Prelude.{All, Option, None}
+use Rattle.std.specs.Prelude.{All, None}
 use Rattle.std.proofs.lemmas.List.{append-nil, append_assoc}
 use Rattle.std.proofs.lemmas.List.Elements.{All-cons, All-nil}
 use Rattle.ban_list.specs.Subnet.{IsProper}

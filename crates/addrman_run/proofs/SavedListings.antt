@@ -1,5 +1,5 @@
 -- How `from-raw` ends, and what it leaves at each moment.
-use Rattle.std.proofs.Common.{◌≡◌, ◌++◌, ℕ, List, ap, codes, decimal, inl, inr, length, refl, subst, sym}
+use Rattle.std.proofs.Common.{◌≡◌, ◌++◌, ℕ, List, codes, decimal, inl, inr, length, refl, subst, sym}
 use Rattle.std.specs.Prelude.{Option}
 use Rattle.arguments.specs.declared.file_kind.FileKind.{FileKind}
 use Rattle.host_io.specs.Outside.{Outside}

@@ -79,8 +79,8 @@ pub record IsGoodLog (IsLine : List ℕ → Type 0) (left : Option (List ℕ)) :
   pub short : All (λ line. length line ≤ MAX_LINE) (lines_of log)
   pub right : All IsLine (lines_of log)
 
--- Contracts know the input of `from-raw`. It is within its limit, a text of slots and their records,
--- and no peer is there again.
+-- Contracts know the input of `from-raw`. It is within its limit, a text of slots and their
+-- records, and no peer is there again.
 pub record IsGoodListing (left : Option (List ℕ)) : Type 0 where
   pub text : List ℕ
   pub known : left ≡ Some text

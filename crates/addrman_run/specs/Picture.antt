@@ -63,7 +63,8 @@ picture_for (colours.Marks marks) chain view =
     picture_of_sets (sets_of marks) (chain_name chain) view
 
 -- the picture of a view, the text of one tree of elements
-pub record IsPicture (colours : Colours) (chain : Chain) (view : View) (text : List ℕ) : Type 0 where
+pub record IsPicture (colours : Colours) (chain : Chain) (view : View) (text : List ℕ)
+    : Type 0 where
   pub is : text ≡ picture_for colours chain view
   pub tree : IsTree (codes "svg") text
 

@@ -1,4 +1,4 @@
-ghost use Rattle.std.specs.Prelude.{◌≡◌, ◌⊎◌, ℕ, Err, List, IfOk, IfErr, map};
+ghost use Rattle.std.specs.Prelude.{◌≡◌, ◌⊎◌, Err, IfOk, IfErr, map};
 ghost use Rattle.host_io.specs.declared.name.Name.TheVariants as name;
 ghost use Rattle.log_run.specs.Counts.{IsCounted};
 ghost use Rattle.placing.specs.Inside.{map_of};

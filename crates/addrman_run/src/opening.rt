@@ -21,7 +21,7 @@ use arguments::FileKind;
 use asmap_vm::{CodeFault, Sane, check};
 use bit_code::MAX_ASMAP;
 use host_io::{Bytes, Folder, Name};
-use peer_rec::{Counts, Snapshot};
+use peer_rec::Snapshot;
 use peers_file::{Chain, FileFault, read_file};
 use placing::{Placer, SumRule, sum_by};
 use std::alloc::Global;
@@ -49,14 +49,6 @@ pub(crate) fn read_peers(
     }
 }
 
-/// Returns `true` if there is a key, and it is another one than that of peers.dat.
-fn is_unused(key: Option<[u8; 32]>, own: [u8; 32]) -> bool {
-    match key {
-        Some(key) => key != own,
-        None => false,
-    }
-}
-
 /// Returns how the checksum of an asmap in a snapshot fits an asmap, of which the tables have the
 /// checksum by a rule. Nothing is compared without new records.
 fn fit_of(snap: &Snapshot, rule: SumRule, map: Option<Sane<'_>>) -> SumFit {
@@ -79,13 +71,6 @@ fn fit_of(snap: &Snapshot, rule: SumRule, map: Option<Sane<'_>>) -> SumFit {
     } else {
         SumFit::Other
     }
-}
-
-/// Returns how many new records of a snapshot are not in the tables with these counts.
-fn left_out_of(snap: &Snapshot, counts: Counts) -> usize {
-    snap.new_recs()
-        .len()
-        .saturating_sub(counts.new_count as usize)
 }
 
 /// Restores the tables of a snapshot. The steps are counted, and nobody reads how many.
@@ -165,14 +150,15 @@ fn open_tables<'a, H: BuildHasher + Drop>(
         Ok(snap) => snap,
         Err(status) => return Err(status),
     };
-    learned.is_key_unused = is_unused(key, snap.key());
+    learned.is_key_unused = key.is_some_and(|key| key != snap.key());
     let rule = kind.rule;
     learned.sum_fit = fit_of(&snap, rule, map);
     let tables = match restore_tables::<Brand, H>(alloc, hasher, &snap, map, rule, Blank::new(1)) {
         Ok(tables) => tables,
         Err(status) => return Err(status),
     };
-    learned.left_out = left_out_of(&snap, tables.counts());
+    let new_count = tables.counts().new_count as usize;
+    learned.left_out = snap.new_recs().len().saturating_sub(new_count);
     Ok(tables)
 }
 

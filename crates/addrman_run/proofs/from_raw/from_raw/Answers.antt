@@ -1,4 +1,4 @@
-use Rattle.std.proofs.Common.{subst, sym}
+use Rattle.std.proofs.Common.{subst}
 use Rattle.host_io.specs.Past.{Always}
 use Rattle.host_io.specs.declared.name.Name.TheVariants as name
 use Rattle.save_store.specs.Saves.{PublishesOrNot}

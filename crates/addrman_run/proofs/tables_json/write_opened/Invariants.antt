@@ -1,4 +1,3 @@
-use Rattle.std.proofs.Common.{◌≡◌}
 use Rattle.addrman_run.proofs.tables_json.write_opened.Given as goal
 
 abbrev pub ghosts-slots_text : goal.ghosts-slots_text
