@@ -145,7 +145,7 @@ impl<'a> Given<'a> {
             let word = word.as_str();
             if is_core && word == "--core" {
                 is_core = false;
-            } else if !listing.contains(i) {
+            } else if i < listing.start || listing.end <= i {
                 next = self.take(alloc, rt, command, next, word)?;
             }
         }
@@ -368,13 +368,6 @@ fn anchors_options(words: &[String]) -> usize {
 struct Span {
     start: usize,
     end: usize,
-}
-
-impl Span {
-    /// Returns `true` if the argument of this index is one of them.
-    fn contains(self, index: usize) -> bool {
-        self.start <= index && index < self.end
-    }
 }
 
 /// Returns the arguments that are `--raw -`, none if there are none or the command doesn't take

@@ -5,8 +5,8 @@
 //! was made of, and reports it (`code`).
 //!
 //! Tested only: that this is the status of `run`, or that a file which an option names is missing,
-//! or that standard input has no listing that can be read, and that its line is written and then those of `hints`, but for a run whose output nobody reads
-//! any more.
+//! or that standard input has no listing that can be read, and that its line is written and then
+//! those of `hints`, but for a run whose output nobody reads any more.
 #![tactic(auto)]
 
 mod ended;
