@@ -19,7 +19,7 @@ pub(crate) fn limiter_call(
     let mut fields = RowFields::of(arguments);
     match name {
         "open" => add(alloc, limiter, &mut fields),
-        "close" => close(alloc, limiter, fields.small()?),
+        "close" => bool_text(alloc, limiter.close_conn(fields.small()?)),
         "getaddr" => getaddr(alloc, limiter, fields.small()?),
         "admit" => admit(alloc, limiter, 1, &mut fields),
         "repeat" => {
@@ -29,11 +29,6 @@ pub(crate) fn limiter_call(
         "conn" => find_text(alloc, limiter.find(fields.small()?)),
         _ => Err(Unread::Form),
     }
-}
-
-/// Closes a connection.
-fn close(alloc: Global, limiter: &mut Limiter<Hasher>, number: u32) -> Result<String, Unread> {
-    bool_text(alloc, limiter.close_conn(number))
 }
 
 /// Notes that getaddr was sent.

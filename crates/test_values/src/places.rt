@@ -52,11 +52,6 @@ fn group(alloc: Global, placer: &Placer<'_>, text: &str) -> Result<String, Unrea
     Ok(format!(in alloc; "{} {group}", placer.asn(&addr))?)
 }
 
-/// `group ADDRESS`: the same under the key of zeros and no asmap.
-fn group_by_zero(alloc: Global, text: &str) -> Result<String, Unread> {
-    group(alloc, &Placer::make([0; 32], None), text)
-}
-
 /// `mapped-group ADDRESS`: the number and the group under the asmap. `asmap-sum`: the sum of the
 /// asmap that the placer has.
 fn mapped(alloc: Global, name: &str, text: &str) -> Result<String, Unread> {
@@ -160,7 +155,7 @@ fn hash(alloc: Global, name: &str, bytes: &[u8]) -> Result<String, Unread> {
 pub(crate) fn answer(alloc: Global, name: &str, arguments: &str) -> Result<String, Unread> {
     match name {
         "places" => both_places(alloc, arguments),
-        "group" => group_by_zero(alloc, arguments),
+        "group" => group(alloc, &Placer::make([0; 32], None), arguments),
         "mapped-group" | "asmap-sum" => mapped(alloc, name, arguments),
         "core-sum" => core_sum(alloc, arguments),
         "key" => key(alloc),
