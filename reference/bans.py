@@ -37,10 +37,12 @@ class Ban(NamedTuple):
 
 
 class BanList(NamedTuple):
-    """A list, what its file has besides it, and whether it is read and written as Bitcoin Core does."""
+    """A list, what its file has besides it, and whether it is read and written as Bitcoin Core does. `found` has the members of the
+    elements of each subnet."""
 
     bans: dict[Subnet, Ban]
     members: dict
+    found: dict[Subnet, dict]
     others: list
     core: bool
 
@@ -119,7 +121,11 @@ def read_list(data: bytes, core: bool) -> BanList:
     pairs = [pair for _, pair in read if pair is not None]
     if len(pairs) > MAXIMUM_BANS:
         raise Fault("too-many")
-    return BanList(dict(pairs), value, [element for element, pair in read if pair is None], core)
+    found: dict[Subnet, dict] = {}
+    for element, pair in read:
+        if pair is not None:
+            found.setdefault(pair[0], {}).update(element)
+    return BanList(dict(pairs), value, found, [element for element, pair in read if pair is None], core)
 
 
 def place(pair: tuple[Subnet, Ban]) -> tuple:
@@ -136,6 +142,7 @@ def written_list(listed: BanList) -> bytes:
         for subnet, ban in pairs
     ]
     if listed.core:
+        elements = [{**listed.found.get(subnet, {}), **element} for (subnet, _), element in zip(pairs, elements)]
         return written_json({**listed.members, "banned_nets": elements + listed.others}).encode()
     return written_json({"banned_nets": elements}).encode()
 

@@ -1,7 +1,7 @@
 -- The file of a list of bans (`banlist.json`).
 use Rattle.std.specs.Prelude.{◌≡◌, ◌⊎◌, ℕ, ◌+◌, ◌<◌, ◌≤◌, List, [], ◌∷◌, map, length, codes, min, Option, Some, None, option_and_then, IsUtf8}
 use Rattle.std.specs.List.{fold}
-use Rattle.serde_json.specs.Data.{Num, unsigned, negative, float, Data, number, string, array, object, member, no_members}
+use Rattle.serde_json.specs.Data.{Num, unsigned, negative, float, Data, Members, number, string, array, object, member, no_members}
 use Rattle.serde_json.specs.Find.{get, as_array, as_number, as_str, as_u64}
 use Rattle.serde_json.specs.Read.{read}
 use Rattle.serde_json.specs.View.{items_of}
@@ -123,13 +123,17 @@ pub record HasOneMeaning (rule : BanRule) (bytes : List ℕ) : Type 0 where
   pub never_both : (a : List Ban) (f : BanFault) → IsListFile rule bytes a →
       HasListFault rule bytes f → ⊥
 
--- the element that is written for a ban with this text of its subnet
-abbrev pub ban_data_with : List ℕ → Ban → Data
-ban_data_with text ban =
-    object (member (codes "address") (string text)
+-- the members of a ban's element, with this text of its subnet
+abbrev pub ban_members : List ℕ → Ban → Members
+ban_members text ban =
+    member (codes "address") (string text)
     (member (codes "ban_created") (number (unsigned ban.created))
     (member (codes "banned_until") (number (unsigned ban.until))
-    (member (codes "version") (number (unsigned 1)) no_members))))
+    (member (codes "version") (number (unsigned 1)) no_members)))
+
+-- the element that is written for a ban with this text of its subnet
+abbrev pub ban_data_with : List ℕ → Ban → Data
+ban_data_with text ban = object (ban_members text ban)
 
 -- the element that is written for a ban by the rule of a list
 abbrev pub ban_data_by : BanRule → Ban → Data

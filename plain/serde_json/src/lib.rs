@@ -135,6 +135,11 @@ impl Map {
             .ok()?;
         Some(&self.0[at].1)
     }
+
+    /// Returns the members in the order of their names.
+    pub fn iter(&self) -> impl Iterator<Item = (&String, &Value)> {
+        self.0.iter().map(|(name, value)| (name, value))
+    }
 }
 
 impl TryClone for Value {
@@ -174,6 +179,14 @@ impl Value {
     pub fn as_array(&self) -> Option<&Vec<Value>> {
         match self {
             Value::Array(items) => Some(items),
+            _ => None,
+        }
+    }
+
+    /// Returns the members, if this is an object.
+    pub fn as_object(&self) -> Option<&Map> {
+        match self {
+            Value::Object(members) => Some(members),
             _ => None,
         }
     }

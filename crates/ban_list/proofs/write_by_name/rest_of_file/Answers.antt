@@ -1,16 +1,11 @@
-use Rattle.std.proofs.Common.{◌≤◌, map, subst}
+use Rattle.std.proofs.Common.{◌≤◌, subst}
 use Rattle.serde_json.specs.Data.{depth}
 use Rattle.serde_json.specs.Read.{max_depth}
-use Rattle.serde_json.specs.View.{view}
-use Rattle.ban_list.specs.BanFile.{IsJson}
-use Rattle.ban_list.specs.NewFile.{HasOthers}
+use Rattle.ban_list.proofs.NewLaws.{rest_found}
 use Rattle.ban_list.proofs.write_by_name.rest_of_file.Goals as goal
 
 pub returns-in-Some-clause-rest : goal.returns-in-Some-clause-rest
-returns-in-Some-clause-rest c = (
-  subst (IsJson c.args.bytes.now) c.in-Some.ensures c.in-Ok.ensures.ok,
-  subst (λ d. HasOthers d (map view c.in_ok-others.others.items)) c.in-Some.ensures c.in_ok-others.ensures,
-)
+returns-in-Some-clause-rest c = rest_found c.args.bytes.now _ _ _ _ c.in-Ok.ensures.ok c.in-Some.ensures.found c.in_ok-elements.ensures
 
 pub returns-in-Some-clause-shallow : goal.returns-in-Some-clause-shallow
-returns-in-Some-clause-shallow c = subst (λ d. depth d ≤ max_depth) c.in-Some.ensures c.in-Ok.ensures.shallow
+returns-in-Some-clause-shallow c = subst (λ d. depth d ≤ max_depth) c.in-Some.ensures.found c.in-Ok.ensures.shallow

@@ -3,8 +3,7 @@ use Rattle.std.specs.List.Sorted.{IsPermutation}
 use Rattle.serde_json.specs.Data.{array, depth, object, put}
 use Rattle.serde_json.specs.Read.{max_depth, read}
 use Rattle.serde_json.specs.View.{items_of, members_view, view}
-use Rattle.ban_list.specs.BanFile.{ban_data_by}
-use Rattle.ban_list.specs.declared.ban.BanRule.TheVariants.{Names}
+use Rattle.ban_list.specs.NewFile.{element_data}
 use Rattle.ban_list.proofs.NewLaws.{file_depth}
 use Rattle.ban_list.proofs.write_by_name.write_by_name.Goals as goal
 
@@ -12,14 +11,17 @@ pub returns : goal.returns
 returns c =
     let rest = c.in_ok-rest.rest in
     let members = members_view rest.members.entries in
-    let others = map view rest.others.items in
+    let others = map view rest.elements.others.items in
     let list = c.in_ok-list.list.items in
-    let value = c.in_ok-file.ensures ∙ ap (λ bans. object (put (codes "banned_nets") (array (items_of (map (ban_data_by Names) bans ++ others))) members)) c.as_slice.ensures.value in
-    let shallow = subst (λ d. depth d ≤ max_depth) (sym value) (file_depth Names c.args.old.now list members others c.in_ok-rest.ensures.rest c.in_ok-rest.ensures.shallow) in
+    let stored = c.in_ok-rest.ensures.rest in
+    let found = stored.0 in
+    let value = c.in_ok-file.ensures found stored.1 ∙ ap (λ bans. object (put (codes "banned_nets") (array (items_of (map (element_data found) bans ++ others))) members)) c.as_slice.ensures.value in
+    let shallow = subst (λ d. depth d ≤ max_depth) (sym value) (file_depth c.args.old.now list members others found stored.2 c.in_ok-rest.ensures.shallow) in
     record {
       members = members;
+      found = found;
       others = others;
-      rest = c.in_ok-rest.ensures.rest;
+      rest = stored.2;
       sorted = list;
       same = subst (λ bans. IsPermutation bans list) c.bans.ensures.value c.in_ok-list.ensures.same;
       order = c.in_ok-list.ensures.order;
