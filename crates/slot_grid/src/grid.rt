@@ -1,6 +1,7 @@
-ghost use Rattle.std.specs.Prelude.{◌≡◌, ◌≢◌, ℕ, ◌<◌, ◌+◌, ◌*◌, All, None, IfOk, vec_len, set, map};
+ghost use Rattle.std.specs.Prelude.{◌≡◌, ◌≢◌, ℕ, ◌<◌, ◌≤◌, ◌+◌, ◌*◌, ◌==◌, None, Some, IfOk, All, vec_len, vec_capacity, length, set, map, get_or, slice_index_or};
 ghost use Rattle.std.specs.Int.{bit_at};
-ghost use Rattle.slot_grid.specs.Masks.{AreMasks, bit_of};
+ghost use Rattle.slot_grid.specs.Inside.{slots_of, AreBlocks, AreStored, IsGrown, IsKept};
+ghost use Rattle.slot_grid.specs.Masks.{bit_of};
 ghost use Rattle.slot_grid.specs.Slots.{renumbered};
 ghost use Rattle.slot_grid.specs.declared.sizes.TheConstants.{NEW_BUCKETS, TRIED_BUCKETS, SLOTS, BUCKETS, ALL_SLOTS};
 
@@ -24,20 +25,27 @@ impl From<AllocError> for Memory {
 /// any number. Only `make` takes memory.
 #[derive(Drop)]
 pub struct Grid {
-    ids: Vec<Option<usize>>,
+    /// The ids of each bucket that had a record so far, in the order of their first records, so
+    /// that a page of memory is touched only when it is needed. The id of an empty slot is ignored.
+    ids: Vec<[usize; SLOTS as usize]>,
+    /// For each bucket of both tables, its index in `ids`, if it has one.
+    blocks: Vec<Option<u16>>,
     /// For each bucket of both tables, which of its slots are occupied: one bit a slot.
     masks: Vec<u64>,
 }
 
 impl Model for Grid {
+    ghost use Rattle.std.specs.Prelude.{◌≤◌, vec_capacity};
     ghost use Rattle.slot_grid.specs.Slots.{Slots};
-    ghost use Rattle.slot_grid.specs.Masks.{AreMasks};
+    ghost use Rattle.slot_grid.specs.Inside.{slots_of, AreStored};
+    ghost use Rattle.slot_grid.specs.declared.sizes.TheConstants.{BUCKETS};
 
     ghost Value = { Slots };
 
-    ghost view = { λ g. g.ids.items };
+    ghost view = { λ g. slots_of g.ids.items g.blocks.items g.masks.items };
 
-    ghost invariant = { λ g. AreMasks g.ids.items g.masks.items };
+    ghost invariant = { λ g. AreStored g.ids.items g.blocks.items g.masks.items
+        × (BUCKETS ≤ vec_capacity g.ids) };
 }
 
 impl Grid {
@@ -49,9 +57,10 @@ impl Grid {
     pub fn make(alloc: Global) -> Result<Grid, Memory>
         ensures { IfOk result AreEmpty }
     {
-        let ids = empty_slots(alloc, ALL_SLOTS)?;
+        let ids = Vec::with_capacity(alloc, BUCKETS)?;
+        let blocks = no_blocks(alloc, BUCKETS)?;
         let masks = empty_masks(alloc, BUCKETS)?;
-        Ok(Grid { ids, masks })
+        Ok(Grid { ids, blocks, masks })
     }
 
     /// Returns the record in a slot of the new table, or `None` if it is empty.
@@ -62,7 +71,13 @@ impl Grid {
         ensures steps { steps.new ≡ steps.old + 1 }
     {
         steps.tick();
-        self.ids[index_of(usize::from(bucket), slot)]
+        at(
+            &self.ids,
+            &self.blocks,
+            &self.masks,
+            usize::from(bucket),
+            slot,
+        )
     }
 
     /// Puts a record into a slot of the new table, or with `None` empties it.
@@ -83,6 +98,7 @@ impl Grid {
         steps.tick();
         put(
             &mut self.ids,
+            &mut self.blocks,
             &mut self.masks,
             usize::from(bucket),
             slot,
@@ -98,7 +114,13 @@ impl Grid {
         ensures steps { steps.new ≡ steps.old + 1 }
     {
         steps.tick();
-        self.ids[index_of(usize::from(NEW_BUCKETS + bucket), slot)]
+        at(
+            &self.ids,
+            &self.blocks,
+            &self.masks,
+            usize::from(NEW_BUCKETS + bucket),
+            slot,
+        )
     }
 
     /// Puts a record into a slot of the tried table, or with `None` empties it.
@@ -119,6 +141,7 @@ impl Grid {
         steps.tick();
         put(
             &mut self.ids,
+            &mut self.blocks,
             &mut self.masks,
             usize::from(NEW_BUCKETS + bucket),
             slot,
@@ -135,7 +158,7 @@ impl Grid {
             ≡ renumbered ids.now (tried_id self.old bucket slot) }
         ensures steps { steps.new ≡ steps.old + ALL_SLOTS }
     {
-        renumber(&mut self.ids, ids, steps);
+        renumber(&mut self.ids, &mut self.blocks, &mut self.masks, ids, steps);
     }
 
     /// Returns which slots of a bucket of the new table are occupied: bit `s` is set exactly when
@@ -161,18 +184,10 @@ impl Grid {
     }
 }
 
-/// Returns the index of a slot among all slots, by its bucket among the buckets of both tables.
-fn index_of(bucket: usize, slot: u8) -> usize
-    requires { bucket < BUCKETS }
-    ensures { result ≡ SLOTS * bucket + slot }
-{
-    bucket * usize::from(SLOTS) + usize::from(slot)
-}
-
-/// Makes `count` empty slots.
-fn empty_slots(alloc: Global, count: usize) -> Result<Vec<Option<usize>>, AllocError>
+/// Makes `count` buckets that have no block.
+fn no_blocks(alloc: Global, count: usize) -> Result<Vec<Option<u16>>, AllocError>
     ensures length { IfOk result (λ v. vec_len v ≡ count) }
-    ensures empty { IfOk result (λ v. All (λ id. id ≡ None) v.items) }
+    ensures empty { IfOk result (λ v. All (λ block. block ≡ None) v.items) }
 {
     vec![in alloc; None; count]
 }
@@ -185,33 +200,123 @@ fn empty_masks(alloc: Global, count: usize) -> Result<Vec<u64>, AllocError>
     vec![in alloc; 0u64; count]
 }
 
+/// Returns the id in a slot, or `None` if it is empty.
+fn at(
+    ids: &[[usize; SLOTS as usize]],
+    blocks: &[Option<u16>],
+    masks: &[u64],
+    bucket: usize,
+    slot: u8,
+) -> Option<usize>
+    requires blocks { AreBlocks ids.now blocks.now }
+    requires masks { length masks.now ≡ BUCKETS }
+    requires bucket { bucket < BUCKETS }
+    requires slot { slot < SLOTS }
+    ensures { result
+        ≡ slice_index_or (slots_of ids.now blocks.now masks.now) (SLOTS * bucket + slot) None }
+{
+    let block = blocks[bucket]?;
+    if has_bit(masks[bucket], slot) {
+        Some(ids[usize::from(block)][usize::from(slot)])
+    } else {
+        None
+    }
+}
+
 /// Puts a record into a slot, or with `None` empties it, and sets its bit or clears it.
 fn put(
-    ids: &mut Vec<Option<usize>>,
+    ids: &mut Vec<[usize; SLOTS as usize]>,
+    blocks: &mut Vec<Option<u16>>,
     masks: &mut Vec<u64>,
     bucket: usize,
     slot: u8,
     id: Option<usize>,
 )
-    requires masks { AreMasks ids.old.items masks.old.items }
+    requires stored { AreStored ids.old.items blocks.old.items masks.old.items }
+    requires room { BUCKETS ≤ vec_capacity ids.old }
     requires bucket { bucket < BUCKETS }
     requires slot { slot < SLOTS }
-    ensures ids { ids.new.items ≡ set ids.old.items (SLOTS * bucket + slot) id }
-    ensures masks { AreMasks ids.new.items masks.new.items }
+    ensures slots { slots_of ids.new.items blocks.new.items masks.new.items
+        ≡ set (slots_of ids.old.items blocks.old.items masks.old.items) (SLOTS * bucket + slot) id }
+    ensures stored { AreStored ids.new.items blocks.new.items masks.new.items }
+    ensures room { vec_capacity ids.new ≡ vec_capacity ids.old }
 {
     let mask = with_bit(masks[bucket], slot, id.is_some());
-    ids[index_of(bucket, slot)] = id;
+    keep(ids, blocks, bucket, slot, id);
     masks[bucket] = mask;
 }
 
-/// Replaces each id in a list of slots. Counts a step for each.
-fn renumber<L: Ledger>(slots: &mut Vec<Option<usize>>, ids: &[usize], steps: &mut Steps<L>)
-    ensures renumbered { slots.new.items ≡ map (renumbered ids.now) slots.old.items }
-    ensures steps { steps.new ≡ steps.old + vec_len slots.old }
+/// Writes the id of a slot, if it is to have one, into the block of its bucket.
+fn keep(
+    ids: &mut Vec<[usize; SLOTS as usize]>,
+    blocks: &mut Vec<Option<u16>>,
+    bucket: usize,
+    slot: u8,
+    id: Option<usize>,
+)
+    requires blocks { AreBlocks ids.old.items blocks.old.items }
+    requires room { BUCKETS ≤ vec_capacity ids.old }
+    requires bucket { bucket < BUCKETS }
+    requires slot { slot < SLOTS }
+    ensures blocks { AreBlocks ids.new.items blocks.new.items }
+    ensures room { vec_capacity ids.new ≡ vec_capacity ids.old }
+    ensures kept { IsKept bucket slot id
+        ids.old.items blocks.old.items ids.new.items blocks.new.items }
 {
-    for index in 0..slots.len() {
+    if let Some(id) = id {
+        let block = block_of(ids, blocks, bucket);
+        ids[block][usize::from(slot)] = id;
+    }
+}
+
+/// Returns the block of a bucket. A bucket that has none gets the next one.
+fn block_of(
+    ids: &mut Vec<[usize; SLOTS as usize]>,
+    blocks: &mut Vec<Option<u16>>,
+    bucket: usize,
+) -> usize
+    requires blocks { AreBlocks ids.old.items blocks.old.items }
+    requires room { BUCKETS ≤ vec_capacity ids.old }
+    requires bucket { bucket < BUCKETS }
+    ensures block { get_or blocks.new.items bucket None ≡ Some result }
+    ensures blocks { AreBlocks ids.new.items blocks.new.items }
+    ensures room { vec_capacity ids.new ≡ vec_capacity ids.old }
+    ensures grown { IsGrown bucket
+        ids.old.items blocks.old.items ids.new.items blocks.new.items }
+{
+    match blocks[bucket] {
+        Some(block) => usize::from(block),
+        None => {
+            let block = ids.len();
+            ids.push_reserved([0; SLOTS as usize]);
+            blocks[bucket] = Some(block as u16);
+            block
+        }
+    }
+}
+
+/// Replaces each id in the slots. Counts a step for each slot.
+fn renumber<L: Ledger>(
+    ids: &mut Vec<[usize; SLOTS as usize]>,
+    blocks: &mut Vec<Option<u16>>,
+    masks: &mut Vec<u64>,
+    new_ids: &[usize],
+    steps: &mut Steps<L>,
+)
+    requires stored { AreStored ids.old.items blocks.old.items masks.old.items }
+    requires room { BUCKETS ≤ vec_capacity ids.old }
+    ensures renumbered { slots_of ids.new.items blocks.new.items masks.new.items
+        ≡ map (renumbered new_ids.now) (slots_of ids.old.items blocks.old.items masks.old.items) }
+    ensures stored { AreStored ids.new.items blocks.new.items masks.new.items }
+    ensures room { vec_capacity ids.new ≡ vec_capacity ids.old }
+    ensures steps { steps.new ≡ steps.old + ALL_SLOTS }
+{
+    for index in 0..ALL_SLOTS {
         steps.tick();
-        slots[index] = renumbered(slots[index], ids);
+        let bucket = index / SLOTS as usize;
+        let slot = (index % SLOTS as usize) as u8;
+        let id = renumbered(at(ids, blocks, masks, bucket, slot), new_ids);
+        put(ids, blocks, masks, bucket, slot, id);
     }
 }
 
@@ -229,6 +334,14 @@ fn renumbered(slot: Option<usize>, ids: &[usize]) -> Option<usize>
         }
         None => None,
     }
+}
+
+/// Returns whether a bit of a mask is set.
+fn has_bit(mask: u64, slot: u8) -> bool
+    requires { slot < SLOTS }
+    ensures { result ≡ (bit_at mask slot == 1) }
+{
+    mask >> slot & 1 == 1
 }
 
 /// Returns the mask with a bit set or cleared.
