@@ -16,7 +16,7 @@ use crate::input::{Input, load_input};
 use crate::output::{save_then_write, write_line};
 use crate::{Learned, Memory, Status};
 use ban_list::{
-    Ban, BanFault, BanReply, BanRule, Bans, Subnet, passed_over, put_subnet_by, read_bans_by,
+    Ban, BanFault, BanReply, BanRule, Bans, Subnet, put_subnet_by, read_bans_counting,
     write_bans_by,
 };
 use host_io::{Bytes, Folder, Name, Sink};
@@ -57,9 +57,9 @@ fn read_list(
     ensures found { IfOk result (λ listed. IsListFile rule bytes listed.bans) }
     ensures cause { IfErr result (IsNoList rule bytes) }
 {
-    match read_bans_by(alloc, rule, bytes.items()) {
-        Ok(bans) => {
-            learned.passed_over = passed_over(alloc, rule, bytes.items()).unwrap_or(0);
+    match read_bans_counting(alloc, rule, bytes.items()) {
+        Ok((bans, passed_over)) => {
+            learned.passed_over = passed_over;
             learned.ban_rule = rule;
             Ok(Listed {
                 bans,

@@ -32,7 +32,7 @@ pub use bans::{BanReply, Bans, MAX_BANS};
 pub use fault::BanFault;
 pub use law::{files_have_one_meaning, texts_have_one_meaning};
 pub use net_addr::Memory;
-pub use read_file::{MAX_FILE, passed_over, read_bans, read_bans_by};
+pub use read_file::{MAX_FILE, read_bans, read_bans_by, read_bans_counting};
 pub use subnet::Subnet;
 pub use subnet_names::{parse_subnet_by, put_subnet_by, subnet_name};
 pub use subnet_text::{parse_subnet, put_subnet};

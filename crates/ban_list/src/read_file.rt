@@ -45,6 +45,28 @@ pub fn read_bans_by(alloc: Global, rule: BanRule, bytes: &[u8]) -> Result<Bans, 
     ensures exact { (first : BanFault) → HasListFault rule bytes.now first
         → IsErrAnd result (λ fault. (fault ≡ faults.Memory) ⊎ (fault ≡ first)) }
 {
+    match read_bans_counting(alloc, rule, bytes) {
+        Ok((bans, _)) => Ok(bans),
+        Err(fault) => Err(fault),
+    }
+}
+
+/// Does what `read_bans_by` does, and returns with the bans how many elements do not count, and so
+/// are passed over.
+pub fn read_bans_counting(
+    alloc: Global,
+    rule: BanRule,
+    bytes: &[u8],
+) -> Result<(Bans, usize), BanFault>
+    ensures found { IfOk result (λ read. IsListFile rule bytes.now read.0) }
+    ensures passed_over { IfOk result (λ read. PassesOver rule bytes.now read.1) }
+    ensures cause { IfErr result (λ fault.
+        (fault ≡ faults.Memory) ⊎ HasListFault rule bytes.now fault) }
+    ensures only { (bans : List Ban) → IsListFile rule bytes.now bans
+        → MatchResult result (λ read. read.0 ≡ bans) (λ fault. fault ≡ faults.Memory) }
+    ensures exact { (first : BanFault) → HasListFault rule bytes.now first
+        → IsErrAnd result (λ fault. (fault ≡ faults.Memory) ⊎ (fault ≡ first)) }
+{
     let value = match parse(alloc, bytes) {
         Ok(value) => value,
         Err(fault) => return Err(fault),
@@ -56,25 +78,8 @@ pub fn read_bans_by(alloc: Global, rule: BanRule, bytes: &[u8]) -> Result<Bans, 
     if is_too_many(counted.len()) {
         return Err(BanFault::TooMany);
     }
-    Ok(Bans::of(alloc, counted.as_slice())?)
-}
-
-/// Returns how many elements of a file of bans do not count, and so are passed over. `None` if the
-/// file has no list of elements, or if memory runs out.
-pub fn passed_over(alloc: Global, rule: BanRule, bytes: &[u8]) -> Option<usize>
-    ensures { IfSome result (PassesOver rule bytes.now) }
-{
-    let value = match parse(alloc, bytes) {
-        Ok(value) => value,
-        Err(_) => return None,
-    };
-    let Some(elements) = elements_of(&value) else {
-        return None;
-    };
-    match counted_of(alloc, rule, elements) {
-        Ok(counted) => Some(elements.len() - counted.len()),
-        Err(_) => None,
-    }
+    let bans = Bans::of(alloc, counted.as_slice())?;
+    Ok((bans, elements.len() - counted.len()))
 }
 
 /// Parses a JSON text.

@@ -4,15 +4,17 @@ ghost use Rattle.std.specs.Int.{w32, to_le_bytes};
 ghost use Rattle.net_addr.specs.Address.{IsAddress};
 ghost use Rattle.peer_rec.specs.declared.file_rec.TheConstants.{MAX_ATTEMPTS};
 ghost use Rattle.peer_rec.specs.Snapshot.{IsFileRec, IsSnapshot};
+ghost use Rattle.peer_rec.specs.declared.snapshot.TheConstants.{MAX_NEW};
 ghost use Rattle.peers_file.specs.Inside.{IsWritten, front_text, who_text, marks_text, pairs_text, counts_text};
 ghost use Rattle.peers_file.specs.Layout.{IsFile, HasFileFault};
 ghost use Rattle.peers_file.specs.Texts.{record_text, bucket_text, head_text, body_text, file_text};
 ghost use Rattle.peers_file.specs.declared.fault.FileFault.{FileFault};
+ghost use Rattle.peers_file.specs.declared.length.TheConstants.{RECORD_ROOM};
 ghost use Rattle.peers_file.specs.declared.read.TheConstants.{MAX_FILE};
 ghost use Rattle.slot_grid.specs.declared.sizes.TheConstants.{NEW_BUCKETS, SLOTS};
 
 use crate::chain::Chain;
-use crate::length::{EMPTY_FILE, RECORD_ROOM};
+use crate::length::{EMPTY_FILE, record_length};
 use addr_codecs::{Memory, put_address};
 use host_io::Bytes;
 use peer_rec::{FileRec, Snapshot};
@@ -83,6 +85,19 @@ fn put_record(out: &mut Vec<u8>, rec: &FileRec) -> Result<(), Memory>
     put_who(out, rec)?;
     put_marks(out, rec)?;
     Ok(())
+}
+
+/// Returns the length in bytes of records in a file.
+fn length_of(recs: &[FileRec]) -> usize
+    requires { length recs.now ≤ MAX_NEW }
+    ensures exact { result ≡ length (flat_map record_text recs.now) }
+    ensures short { result ≤ RECORD_ROOM * length recs.now }
+{
+    let mut length = 0;
+    for rec in recs {
+        length += record_length(&rec.peer.addr, &rec.source, rec.services);
+    }
+    length
 }
 
 /// Appends records.
@@ -185,9 +200,10 @@ pub fn write_file(alloc: Global, snap: &Snapshot, chain: Chain) -> Result<Bytes,
         → HasFileFault chain bytes fault → ⊥) }
     ensures short { IfOk result (λ bytes. length bytes < MAX_FILE) }
 {
-    let records = snap.new_recs().len() + snap.tried_recs().len();
-    let room = EMPTY_FILE + RECORD_ROOM * records + 4 * snap.listed().len();
-    let mut out = Vec::with_capacity(alloc, room)?;
+    let recs_length = length_of(snap.new_recs()) + length_of(snap.tried_recs());
+    let length = EMPTY_FILE + recs_length + 4 * snap.listed().len();
+    // Memory for more than this length would go back to the system after each save.
+    let mut out = Vec::with_capacity(alloc, length)?;
     out.extend_from_slice(&chain.magic())?;
     put_body(&mut out, snap)?;
     let sum = double_sha256(out.as_slice());

@@ -1,15 +1,28 @@
 -- What a walk over the occupied slots of a bucket finds.
-use Rattle.std.proofs.Common.{◌≡◌, ℕ, zero, suc, ◌+◌, ◌-◌, ◌<◌, ◌≤◌, Bool, true, false, Option, None, Some, refl, sym, ap, ◌∙◌, arith, rules, List, if◌then◌else◌, find, filter_map, is_some, IsSome}
+use Rattle.std.proofs.Common.{◌≡◌, ℕ, zero, suc, ◌+◌, ◌-◌, ◌<◌, ◌≤◌, Bool, true, false, Option, None, Some, refl, sym, ap, ◌∙◌, arith, rules, List, if◌then◌else◌, find, filter_map, is_some, IsSome, bytes_eq, subst}
 use Rattle.std.specs.Int.{bit_at}
 use Rattle.std.specs.List.{range_with_len}
 use Rattle.std.specs.Option.{option_or}
 use Rattle.std.proofs.lemmas.List.Elements.{filter_map-append}
 use Rattle.std.proofs.lemmas.List.Folds.{find-append}
+use Rattle.std.proofs.lemmas.Slice.Eq.{bytes_eq-Decides}
+use Rattle.net_addr.specs.NetSet.{all, has}
+use Rattle.net_addr.specs.declared.net.Net.{Net}
+use Rattle.net_addr.specs.declared.net.Net.TheVariants.{Unroutable}
+use Rattle.peer_rec.specs.Rec.{network}
 use Rattle.peer_rec.specs.declared.rec.Rec.{Rec}
 use Rattle.table_machine.specs.State.{State}
 use Rattle.table_machine.specs.Picks.{first_candidate, is_wanted, occupant_at}
 use Rattle.slot_grid.specs.Masks.{bit_of}
 use Rattle.picking.specs.Inside.{IsMask, candidate_in}
+
+-- the set of all networks wants each record
+pub all_want : (nets : List ℕ) (r : Rec) → bytes_eq nets all ≡ true → is_wanted nets r ≡ true
+all_want nets r same = subst (λ s. is_wanted s r ≡ true) (sym ((bytes_eq-Decides nets all).0 same)) (by (network r))
+  where
+    by : (net : Net) → has all net ≡ true
+    by Unroutable = refl
+    by other = refl
 
 -- a slot whose bit is 0 is empty, and one whose bit is 1 is occupied
 empty_by : (occupant : ℕ → Option Rec) (mask slot : ℕ) → IsMask occupant mask → slot < 64 → bit_at mask slot ≡ 0 → occupant slot ≡ None

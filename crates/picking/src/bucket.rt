@@ -1,6 +1,6 @@
 ghost use Rattle.std.specs.Prelude.{◌≡◌, ℕ, ◌<◌, ◌≤◌, IfSome, IfNone, ◌+◌, ◌*◌, ◌-◌, Some, IsSome, option_map};
 ghost use Rattle.std.specs.Int.{bit_at};
-ghost use Rattle.table_machine.specs.Picks.{bucket_count, first_candidate, occupant_at};
+ghost use Rattle.table_machine.specs.Picks.{bucket_count, first_candidate, is_wanted, occupant_at};
 ghost use Rattle.picking.specs.Inside.{candidate_in, IsMask};
 ghost use Rattle.slot_grid.specs.declared.sizes.TheConstants.{SLOTS};
 
@@ -67,6 +67,15 @@ fn occupant<'t, H: BuildHasher, L: Ledger>(
     rec.unwrap()
 }
 
+/// Returns `true` if a record is wanted. The set of all networks wants each, so there the record's
+/// address is not read.
+#[tactic(auto, using(crate::proofs::Candidates::all_want))]
+fn is_candidate(nets: NetSet, rec: &Rec) -> bool
+    ensures { result ≡ is_wanted nets rec.now }
+{
+    nets == NetSet::all() || is_wanted(nets, rec)
+}
+
 /// Returns the first wanted record of a bucket in the slots `from..to`. Bit s of the mask says
 /// whether slot s of the bucket is occupied; no other slots are read.
 fn candidate_in<'t, H: BuildHasher, L: Ledger>(
@@ -90,7 +99,7 @@ fn candidate_in<'t, H: BuildHasher, L: Ledger>(
     let mut at = from;
     while let Some(slot) = next_set(mask, at, to) {
         let rec = occupant(tables, in_new, bucket, slot, steps);
-        if is_wanted(nets, rec) {
+        if is_candidate(nets, rec) {
             return Some(rec);
         }
         at = slot + 1;

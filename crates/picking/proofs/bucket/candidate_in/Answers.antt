@@ -2,10 +2,10 @@ use Rattle.std.proofs.Common.{◌∙◌, sym, arith}
 use Rattle.picking.proofs.Candidates.{candidate-none, candidate-one, candidate-other, to_next}
 use Rattle.picking.proofs.bucket.candidate_in.Goals as goal
 
-pub returns-then-is_wanted-clause-found : goal.returns-then-is_wanted-clause-found
-returns-then-is_wanted-clause-found g c =
+pub returns-then-is_candidate-clause-found : goal.returns-then-is_candidate-clause-found
+returns-then-is_candidate-clause-found g c =
     sym (candidate-one c.args.tables.now c.args.in_new c.args.nets c.args.bucket c.in-Some.slot c.args.to c.occupant-rec.result.now
-    c.in-Some.ensures.within.1 c.occupant-rec.ensures.record (sym c.is_wanted.ensures ∙ c.if-is_wanted.true))
+    c.in-Some.ensures.within.1 c.occupant-rec.ensures.record (sym c.is_candidate.ensures ∙ c.if-is_candidate.true))
     ∙ sym (to_next c.args.tables.now c.args.in_new c.args.nets c.args.bucket c.args.mask c.loop-slot.at c.in-Some.slot c.args.to
     c.requires.mask c.in-Some.ensures.within.0 (omega (arith, c.in-Some.ensures.within.1)) c.requires.slots c.in-Some.ensures.first)
     ∙ c.loop-slot.invariant.rest
@@ -14,7 +14,7 @@ pub loop-slot-preserved : goal.loop-slot-preserved
 loop-slot-preserved g c = record {
   rest =
       sym (candidate-other c.args.tables.now c.args.in_new c.args.nets c.args.bucket c.in-Some.slot c.args.to c.occupant-rec.result.now
-      c.in-Some.ensures.within.1 c.occupant-rec.ensures.record (sym c.is_wanted.ensures ∙ c.if-is_wanted.false))
+      c.in-Some.ensures.within.1 c.occupant-rec.ensures.record (sym c.is_candidate.ensures ∙ c.if-is_candidate.false))
       ∙ sym (to_next c.args.tables.now c.args.in_new c.args.nets c.args.bucket c.args.mask c.loop-slot.at c.in-Some.slot c.args.to
       c.requires.mask c.in-Some.ensures.within.0 (omega (arith, c.in-Some.ensures.within.1)) c.requires.slots c.in-Some.ensures.first)
       ∙ c.loop-slot.invariant.rest;
