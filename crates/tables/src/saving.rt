@@ -33,6 +33,14 @@ pub(crate) fn ids_of(alloc: Global, pairs: &[(u64, usize)]) -> Result<Vec<usize>
     pairs.iter().map(|pair| pair.1).collect(alloc)
 }
 
+/// Returns the larger of two ids.
+fn larger(first: usize, second: usize) -> usize
+    ensures first { first ≤ result }
+    ensures second { second ≤ result }
+{
+    if first < second { second } else { first }
+}
+
 /// Returns a length that each of the ids is below. `Memory` is returned if there is none, which is
 /// more than any memory has room for.
 fn past_ids(ids: &[usize]) -> Result<usize, Memory>
@@ -40,7 +48,7 @@ fn past_ids(ids: &[usize]) -> Result<usize, Memory>
 {
     let mut last = 0;
     for id in ids {
-        last = last.max(*id);
+        last = larger(last, *id);
     }
     if last == usize::MAX {
         return Err(Memory);

@@ -6,11 +6,11 @@ use Rattle.tables.proofs.saving.past_ids.Goals as goal
 pub loop-id-preserved : goal.loop-id-preserved
 loop-id-preserved c =
     let l = c.loop-id in
-    let last = c.max-last.result in
+    let last = c.larger-last.result in
     let within : l.id-index < length c.args.ids.now = search rules in
     All-more (λ n. n ≤ last) c.args.ids.now l.id-index 0 within
-    (λ k d low. let old = l.invariant k d low in omega (arith, old, c.max-last.ensures))
-    (omega (arith, c.max-last.ensures))
+    (λ k d low. let old = l.invariant k d low in omega (arith, old, c.larger-last.ensures.first))
+    c.larger-last.ensures.second
 
 pub returns : goal.returns
 returns c =
