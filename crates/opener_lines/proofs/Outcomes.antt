@@ -1,5 +1,5 @@
 -- Tries have one outcome.
-use Rattle.std.proofs.Common.{◌≡◌, ◌≢◌, ◌⊎◌, ℕ, zero, suc, ◌+◌, ◌≤◌, Bool, true, false, if◌then◌else◌, List, inl, inr, refl, sym, ap, subst, ◌∙◌, arith}
+use Rattle.std.proofs.Common.{◌≡◌, ◌≢◌, ◌⊎◌, ℕ, zero, suc, ◌+◌, ◌≤◌, List, inl, inr, refl, sym, ap, subst, ◌∙◌, arith}
 use Rattle.std.proofs.lemmas.Bool.Decides.{leb_tells}
 use Rattle.net_addr.specs.declared.peer.Peer.{Peer}
 use Rattle.peer_rec.specs.declared.answers.Picked.{Picked}
@@ -7,9 +7,8 @@ use Rattle.peer_rec.specs.declared.answers.Picked.TheVariants as picked
 use Rattle.manager.specs.Machine.{Machine}
 use Rattle.peer_open.specs.Groups.{Outbound}
 use Rattle.peer_open.specs.declared.opener.TheConstants.{MAX_TRIES}
-use Rattle.peer_open.specs.declared.outbound.Verdict.{Verdict}
 use Rattle.peer_open.specs.declared.rules.OpenRules.{OpenRules}
-use Rattle.opener_lines.specs.Tries.{Aim, HasOutcome, IsFirst, NoneBefore, is_passed, pick_by, try_by, try_of_peer, try_of_pick, try_of_verdict, verdict_by, Try, Take, NoneLeft, Next}
+use Rattle.opener_lines.specs.Tries.{Aim, HasOutcome, IsFirst, NoneBefore, pick_by, try_by, try_of_peer, try_of_pick, Try, Take, NoneLeft, Next}
 use Rattle.opener_lines.specs.declared.tries.Outcome.{Outcome}
 use Rattle.opener_lines.specs.declared.tries.Outcome.TheVariants as outcome
 
@@ -87,20 +86,6 @@ one_outcome tries outcome.GaveUp outcome.Nothing h k = absurd (gave_up tries k.0
 one_outcome tries outcome.GaveUp outcome.GaveUp h k = refl
 
 -- ---- by the pick of a try
-
--- a peer that the rules pass over
-pub passed_next : (rules : OpenRules) (m : Machine) (open_peers : List Outbound) (goal : Aim) (i : ℕ) (peer : Peer) (last_try : ℕ) (b : Bool)
-    → b ≡ is_passed rules goal m.tables peer i → b ≡ true → try_of_peer rules m open_peers goal i peer last_try ≡ Next
-passed_next rules m open_peers goal i peer last_try b by is =
-    ap (λ passed. if passed then Next else try_of_verdict (verdict_by rules goal m.tables.places open_peers peer last_try m.clock i) peer) (sym by ∙ is)
-
--- one that they do not
-pub judged_try : (rules : OpenRules) (m : Machine) (open_peers : List Outbound) (goal : Aim) (i : ℕ) (peer : Peer) (last_try : ℕ) (b : Bool) (v w : Verdict)
-    → b ≡ is_passed rules goal m.tables peer i → b ≡ false → v ≡ verdict_by rules goal m.tables.places open_peers peer last_try m.clock i → v ≡ w
-    → try_of_peer rules m open_peers goal i peer last_try ≡ try_of_verdict w peer
-judged_try rules m open_peers goal i peer last_try b v w by is judged same =
-    ap (λ passed. if passed then Next else try_of_verdict (verdict_by rules goal m.tables.places open_peers peer last_try m.clock i) peer) (sym by ∙ is)
-    ∙ ap (λ v. try_of_verdict v peer) (sym judged ∙ same)
 
 -- what comes of a pick
 pub of_peer : (rules : OpenRules) (m : Machine) (open_peers : List Outbound) (goal : Aim) (seed i : ℕ) (p : Picked) (peer : Peer) (last_try : ℕ) (result : Try)

@@ -155,7 +155,7 @@ fn is_taken<H: BuildHasher, L: Ledger>(
 }
 
 /// Makes tries for an outbound connection until one decides, at most `MAX_TRIES`.
-#[tactic(auto, using(crate::proofs::Outcomes::none_before_next, crate::proofs::Outcomes::of_peer, crate::proofs::Outcomes::none_left, crate::proofs::Outcomes::words_end))]
+#[tactic(auto, using(crate::proofs::Outcomes::of_peer, crate::proofs::Outcomes::none_left))]
 pub(crate) fn find_outbound<H: BuildHasher, L: Ledger>(
     rules: &OpenRules,
     manager: &Manager<'_, H>,
@@ -186,7 +186,7 @@ pub(crate) fn find_outbound<H: BuildHasher, L: Ledger>(
 }
 
 /// Makes tries for a connection that tests a peer, until one decides, at most `MAX_TRIES`.
-#[tactic(auto, using(crate::proofs::Outcomes::none_before_next, crate::proofs::Outcomes::of_peer, crate::proofs::Outcomes::none_left, crate::proofs::Outcomes::words_end))]
+#[tactic(auto, using(crate::proofs::Outcomes::none_left))]
 pub(crate) fn find_feeler<H: BuildHasher, L: Ledger>(
     rules: &OpenRules,
     manager: &Manager<'_, H>,
