@@ -22,11 +22,11 @@ returns-in-None-clause-none c =
     let left = map string_bytes c.in-Some-cut_services.after_services.now in
     let rest = map string_bytes c.cut_port_rule-skips_bad_ports.result.1.now in
     let has : HasOption (codes "--services") u64_field (TheNumber 0) (TheNumber c.in-Some-cut_services.services) left after =
-        moved (λ ws. HasOption (codes "--services") u64_field (TheNumber 0) (TheNumber c.in-Some-cut_services.services) left (map string_bytes ws)) _ c.in-Some.after_exempt.now
-        c.in-Some-cut_services.ensures.found (search rules) in
+    moved (λ ws. HasOption (codes "--services") u64_field (TheNumber 0) (TheNumber c.in-Some-cut_services.services) left (map string_bytes ws)) _ c.in-Some.after_exempt.now
+    c.in-Some-cut_services.ensures.found (search rules) in
     let cut : (text : List ℕ) (tail : List (List ℕ)) → Begins (codes "--services") text tail after → tail ≡ left =
-        moved (λ ws. (text : List ℕ) (tail : List (List ℕ)) → Begins (codes "--services") text tail (map string_bytes ws) → tail ≡ left) _ c.in-Some.after_exempt.now
-        c.in-Some-cut_services.ensures.rest (search rules) in
+    moved (λ ws. (text : List ℕ) (tail : List (List ℕ)) → Begins (codes "--services") text tail (map string_bytes ws) → tail ≡ left) _ c.in-Some.after_exempt.now
+    c.in-Some-cut_services.ensures.rest (search rules) in
     let port : HasPortRule c.cut_port_rule-skips_bad_ports.result.0 rest left = search rules in
     let off : c.cut_port_rule-skips_bad_ports.result.0 ≡ false → (tail : List (List ℕ)) → left ≢ codes "--skip-bad-ports" ∷ tail = search rules in
     let none : HasNoValues Opening rest = search rules in
