@@ -12,19 +12,19 @@ import peers_file
 import prefixes
 import raw_rows
 import risk
-from addresses import Address, Peer, address_text, class_of, read_peer, routable
+from addresses import NETWORKS, Address, Peer, address_text, class_of, read_peer, routable
 from asmap import MAXIMUM_BYTES as MAXIMUM_ASMAP
 from asmap import NO_ASMAP, Asmap, compile_rows, pack, rows_of
 from folder import MAXIMUM_PIECE, Failed, Folder, Stop, read_file, write_file
 from generator import generated
 from limit import Limit
-from lines import LARGEST_TIME, read_lines
+from lines import LARGEST_TIME, networks, read_lines
 from log import ReplayLog, TableLog
 from names import name_of, read_text
-from opener import OpenerLog
+from opener import OpenerLog, Rules
 from picture import picture, picture_of_sets
 from places import group
-from tables import Tables
+from tables import ALL, Tables
 from text import MASK, Fault, read_digits, read_number
 
 MAXIMUM_GENERATED_LINES = 100_000
@@ -40,6 +40,7 @@ ANCHORS = b"--anchors"
 MARK = b"--mark"
 MAXIMUM_MARKS = 6
 CORE = b"--core"
+EXEMPT, SERVICES, SKIP_BAD_PORTS = b"--exempt", b"--services", b"--skip-bad-ports"
 BAN_COMMANDS = ("ban", "unban", "banned", "bans")
 
 
@@ -88,6 +89,32 @@ def without_core(arguments: list[bytes]) -> tuple[list[bytes], bool]:
     """The arguments after `--core`, and whether it is the first."""
     core = arguments[:1] == [CORE]
     return arguments[core:], core
+
+
+def cut_option(arguments: list[bytes], name: bytes) -> tuple[bytes | None, list[bytes]]:
+    """The value of an option that arguments begin with, None if they do not, and the other arguments."""
+    if arguments[:1] == [name]:
+        return usage(arguments[1] if len(arguments) > 1 else None), arguments[2:]
+    if arguments and arguments[0].startswith(name + b"="):
+        return arguments[0].partition(b"=")[2], arguments[1:]
+    return None, arguments
+
+
+def opener_rules(arguments: list[bytes]) -> tuple[Rules, list[bytes]]:
+    """The rules of Bitcoin Core that arguments of `opener` begin with, and the other arguments."""
+    exempt, services = frozenset(), 0
+    value, arguments = cut_option(arguments, EXEMPT)
+    if value is not None:
+        try:
+            named = networks(value)
+        except Fault:
+            usage()
+        exempt = frozenset(NETWORKS) if named == ALL else frozenset(named)
+    value, arguments = cut_option(arguments, SERVICES)
+    if value is not None:
+        services = usage(read_number(value, MASK))
+    skips = arguments[:1] == [SKIP_BAD_PORTS]
+    return Rules(exempt, services, skips), arguments[skips:]
 
 
 def key_and_chain(options: dict[str, bytes]) -> tuple[bytes | None, bytes]:
@@ -293,9 +320,13 @@ class Run:
             method(tables_options(arguments[1:]))
             return
         if name in OPTIONS:
-            options, core = without_core(arguments[1:])
+            options, rules = arguments[1:], []
+            if name == "opener":
+                chosen, options = opener_rules(options)
+                rules = [chosen]
+            options, core = without_core(options)
             key, start = key_and_chain(read_options(options, OPTIONS[name]))
-            method(key, FileKind(start, core))
+            method(key, FileKind(start, core), *rules)
             return
         given = arguments[1:]
         if name in BAN_COMMANDS:
@@ -339,8 +370,8 @@ class Run:
     def replay(self, key: bytes | None, kind: FileKind):
         self.each_line(ReplayLog(self.tables(key, kind), kind.start, self.folder).answer)
 
-    def opener(self, key: bytes | None, kind: FileKind):
-        self.each_line(OpenerLog(self.tables(key, kind)).answer)
+    def opener(self, key: bytes | None, kind: FileKind, rules: Rules):
+        self.each_line(OpenerLog(self.tables(key, kind), rules).answer)
 
     def limit(self):
         self.each_line(Limit().output, at_once=True)

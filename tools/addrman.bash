@@ -48,7 +48,10 @@ _addrman() {
         return
     fi
     case ${COMP_WORDS[at]} in
-        replay | opener) mapfile -t COMPREPLY < <(compgen -W "--key --key-file --net --magic --core" -- "$word") ;;
+        replay) mapfile -t COMPREPLY < <(compgen -W "--key --key-file --net --magic --core" -- "$word") ;;
+        opener)
+            mapfile -t COMPREPLY < <(compgen -W "--key --key-file --net --magic --core --exempt --services --skip-bad-ports" -- "$word")
+            ;;
         show) mapfile -t COMPREPLY < <(compgen -W "--net --magic --no-key --core --peers --anchors" -- "$word") ;;
         from-raw)
             mapfile -t COMPREPLY < <(compgen -W "--key --key-file --net --magic --core --asmap" -- "$word")

@@ -92,8 +92,8 @@ pub(crate) fn folder_of(words: &[String]) -> Option<(&str, usize)> {
 impl<'a> Given<'a> {
     /// Makes the arguments of a run: `help COMMAND` if an option asks for it, `version` for `-V`,
     /// and for `--key-file FILE` the key in the file, so that the list of processes doesn't have
-    /// it. `--core` or `--raw -` comes first among the arguments, wherever it was. Options that
-    /// name a file to be read are left out.
+    /// it. `--core` or `--raw -` comes first among the arguments, wherever it was, and before it
+    /// the rules of `opener`. Options that name a file to be read are left out.
     pub(crate) fn of<R: Files>(
         alloc: Global,
         rt: &R,
@@ -135,6 +135,12 @@ impl<'a> Given<'a> {
             self.add(alloc, word.as_str())?;
             self.paths.has_listing = true;
         }
+        let rules = rule_words(command, rest);
+        for span in &rules {
+            for word in rest.get(span.start..span.end).unwrap_or(&[]) {
+                self.add(alloc, word.as_str())?;
+            }
+        }
         let is_read = !self.paths.has_anchors && is_among(&CORE_COMMANDS, command);
         let mut is_core = is_read && has_core(rest);
         if is_core {
@@ -145,7 +151,7 @@ impl<'a> Given<'a> {
             let word = word.as_str();
             if is_core && word == "--core" {
                 is_core = false;
-            } else if i < listing.start || listing.end <= i {
+            } else if !listing.contains(i) && !is_moved(&rules, i) {
                 next = self.take(alloc, rt, command, next, word)?;
             }
         }
@@ -370,6 +376,13 @@ struct Span {
     end: usize,
 }
 
+impl Span {
+    /// Returns `true` if the argument of this index is one of them.
+    fn contains(self, index: usize) -> bool {
+        self.start <= index && index < self.end
+    }
+}
+
 /// Returns the arguments that are `--raw -`, none if there are none or the command doesn't take
 /// them.
 fn listing_words(command: &str, words: &[String]) -> Span {
@@ -389,6 +402,53 @@ fn listing_words(command: &str, words: &[String]) -> Span {
         }
     }
     Span { start: 0, end: 0 }
+}
+
+/// Returns the arguments that are the options of `opener` which choose rules, in the order in which
+/// `run` takes them, none of another command.
+fn rule_words(command: &str, words: &[String]) -> [Span; 3] {
+    if command != "opener" {
+        return [Span { start: 0, end: 0 }; 3];
+    }
+    [
+        option_words(words, "--exempt", true),
+        option_words(words, "--services", true),
+        option_words(words, "--skip-bad-ports", false),
+    ]
+}
+
+/// Returns the arguments that are the first option of this name, with its value.
+fn option_words(words: &[String], name: &str, has_value: bool) -> Span {
+    for (i, word) in words.iter().enumerate() {
+        let word = word.as_str();
+        let end = i.saturating_add(1);
+        if word == name {
+            let end = if has_value {
+                end.saturating_add(1)
+            } else {
+                end
+            };
+            return Span {
+                start: i,
+                end: end.min(words.len()),
+            };
+        }
+        let begins = word.strip_prefix(name);
+        if has_value && begins.is_some_and(|rest| rest.starts_with("=")) {
+            return Span { start: i, end };
+        }
+    }
+    Span { start: 0, end: 0 }
+}
+
+/// Returns `true` if the argument of this index is among those that come first.
+fn is_moved(spans: &[Span], index: usize) -> bool {
+    for span in spans {
+        if span.contains(index) {
+            return true;
+        }
+    }
+    false
 }
 
 /// Returns `true` if one of the arguments is `--core`.

@@ -26,6 +26,7 @@ use Rattle.log_run.specs.declared.run.LogEnd.{LogEnd}
 use Rattle.log_run.specs.declared.sizes.TheConstants.{MAX_LINE, MAX_LOG}
 use Rattle.opener_lines.proofs.OneMeaning.{asked_no_fault}
 use Rattle.opener_lines.specs.Grammar.{HasRequestFault}
+use Rattle.peer_open.specs.declared.rules.OpenRules.{OpenRules}
 use Rattle.peers_file.specs.declared.chain.Chain.{Chain}
 use Rattle.arguments.specs.declared.file_kind.FileKind.{FileKind}
 use Rattle.arguments.specs.declared.grouping.Grouping.{Grouping}
@@ -206,10 +207,10 @@ replay_done key kind old new answer ends cause fine calm =
     (λ run. no_long_log _ _ _ IsReplayLine replay_line _ _ fine.0 run.ran)
     (unopened_done key kind.chain old new answer fine.1 calm)
 
-opener_done : (key : Option (List ℕ)) (kind : FileKind) (old new : Outside) (answer : Status) → OpenerEnds key kind old new answer → HasCause old new answer
+opener_done : (rules : OpenRules) (key : Option (List ℕ)) (kind : FileKind) (old new : Outside) (answer : Status) → OpenerEnds rules key kind old new answer → HasCause old new answer
     → IsGoodLog IsOpenerLine old.left × NoRefusal (ReportsOpening key kind.chain old.past) → Calm old new → IsDone answer
-opener_done key kind old new answer ends cause fine calm =
-    log_done (OpenerRan key kind old new) (NotOpened key kind.chain old new) old new answer ends.outcome cause calm
+opener_done rules key kind old new answer ends cause fine calm =
+    log_done (OpenerRan rules key kind old new) (NotOpened key kind.chain old new) old new answer ends.outcome cause calm
     (λ n fault run. no_fault _ _ _ IsOpenerLine opener_line _ _ fine.0 n fault run.ran)
     (λ n run. no_long_line _ _ _ IsOpenerLine opener_line _ _ fine.0 n run.ran)
     (λ run. no_long_log _ _ _ IsOpenerLine opener_line _ _ fine.0 run.ran)
@@ -401,7 +402,7 @@ no_save_fails other old new = tt
 done_if : (request : Request) (old new : Outside) (answer : Status) → Ends request old new answer → HasCause old new answer → NothingIsWrong request old → Calm old new
     → (NeedsFolder request old new → ¬ Rose old.folder_faults new.folder_faults) → IsDone answer
 done_if (request.Replay key kind) old new answer ends cause fine calm still = replay_done key kind old new answer ends cause fine calm
-done_if (request.Opener key kind) old new answer ends cause fine calm still = opener_done key kind old new answer ends cause fine calm
+done_if (request.Opener rules key kind) old new answer ends cause fine calm still = opener_done rules key kind old new answer ends cause fine calm
 done_if request.Compile old new answer ends cause fine calm still = compile_done old new answer ends cause fine calm
 done_if request.Check old new answer ends cause fine calm still = file_line_done _ _ _ old new answer ends cause fine calm
 done_if request.Decompile old new answer ends cause fine calm still = file_line_done _ _ _ old new answer ends cause fine calm

@@ -12,6 +12,7 @@ use Rattle.opener_lines.specs.Grammar.{HasRequestFault}
 use Rattle.opener_lines.specs.Lines.{LineStep}
 use Rattle.opener_lines.specs.State as opener
 use Rattle.opener_lines.specs.State.{Answer, RequestStep, peers_after}
+use Rattle.opener_lines.specs.Tries.{counted}
 use Rattle.opener_lines.specs.declared.tries.Outcome.{Outcome}
 use Rattle.opener_lines.specs.declared.tries.Outcome.TheVariants.{GaveUp, Taken}
 use Rattle.opener_lines.specs.declared.tries.Outcome.TheVariants as outcome
@@ -19,8 +20,9 @@ use Rattle.opener_lines.specs.declared.command.OpenerCommand.{OpenerCommand}
 use Rattle.opener_lines.specs.declared.command.OpenerCommand.TheVariants as request
 use Rattle.peer_open.specs.Groups.{AreApart, Outbound, outbound}
 use Rattle.peer_open.specs.declared.opener.TheConstants.{MAX_OUTBOUND}
+use Rattle.peer_open.specs.declared.rules.OpenRules.{OpenRules}
 use Rattle.arguments.specs.declared.file_kind.FileKind.{FileKind}
-use Rattle.placing.specs.Places.{Places, group}
+use Rattle.placing.specs.Places.{Places}
 use Rattle.table_machine.specs.State as tables
 use Rattle.addrman_run.specs.Opening.{Opened}
 use Rattle.addrman_run.specs.Log.{streams_of}
@@ -39,11 +41,11 @@ apart_after law s (line ∷ lines) text t run apart =
 few_left : {X : Type 0} (p : X → Bool) (xs : List X) (n : ℕ) → length xs ≤ n → length (filter p xs) ≤ n
 few_left p xs n few = omega (arith, few, length-filter_both p (λ x. not (p x)) (λ x. refl) xs)
 
-few_tried : (places : Places) (found : Outcome) (open_peers : List Outbound) → length open_peers < MAX_OUTBOUND
-    → length (peers_after places found open_peers) ≤ MAX_OUTBOUND
-few_tried places (Taken peer i) open_peers few = omega (arith, few, length-append open_peers (outbound peer (group places peer.addr) ∷ []))
-few_tried places outcome.Nothing open_peers few = omega (arith, few)
-few_tried places GaveUp open_peers few = omega (arith, few)
+few_tried : (rules : OpenRules) (places : Places) (found : Outcome) (open_peers : List Outbound) → length open_peers < MAX_OUTBOUND
+    → length (peers_after rules places found open_peers) ≤ MAX_OUTBOUND
+few_tried rules places (Taken peer i) open_peers few = omega (arith, few, length-append open_peers (outbound peer (counted rules places peer) ∷ []))
+few_tried rules places outcome.Nothing open_peers few = omega (arith, few)
+few_tried rules places GaveUp open_peers few = omega (arith, few)
 
 abbrev AreFew : opener.OpenerState → Type 0
 AreFew s = length s.open_peers ≤ MAX_OUTBOUND
@@ -51,7 +53,7 @@ AreFew s = length s.open_peers ≤ MAX_OUTBOUND
 step_few : (old new : opener.OpenerState) (asked : OpenerCommand) (answer : Answer) → RequestStep old asked answer new → AreFew old → AreFew new
 step_few old new (request.Outbound seed) answer (inl full) few = subst AreFew (sym full.2) few
 step_few old new (request.Outbound seed) answer (inr tried) few =
-    subst AreFew (sym tried.1.3) (few_tried old.machine.tables.places tried.1.0 old.open_peers tried.0)
+    subst AreFew (sym tried.1.3) (few_tried old.rules old.machine.tables.places tried.1.0 old.open_peers tried.0)
 step_few old new (request.Feeler seed word) answer step few = subst AreFew (sym step.3) few
 step_few old new (request.Close peer) answer step few =
     subst AreFew (sym step.1) (few_left (λ o. not (same_peer o.peer peer)) old.open_peers MAX_OUTBOUND few)
@@ -69,25 +71,25 @@ none_open : AreApart []
 none_open i j d le lt = absurd (omega (arith, lt))
 
 -- what an opener has done, from its run beside a world
-pub ran_by : {W : Type 0} (key : Option (List ℕ)) (kind : FileKind) (st : tables.State) (start : opener.OpenerState) (w : W) (old new : Outside) (how : LogEnd)
-    → Opened key kind old.past st → start ≡ opener_start st
+pub ran_by : {W : Type 0} (rules : OpenRules) (key : Option (List ℕ)) (kind : FileKind) (st : tables.State) (start : opener.OpenerState) (w : W) (old new : Outside) (how : LogEnd)
+    → Opened key kind old.past st → start ≡ opener_start rules st
     → ((old new : opener.OpenerState) (line text : List ℕ) → LineStep old line text new → AreApart old.open_peers → AreApart new.open_peers)
     → ((old new : opener.OpenerState) (asked : OpenerCommand) (answer : Answer) → RequestStep old asked answer new → IsFair old asked answer)
     → Ran (Seen {S = opener.OpenerState × W} (λ p. p.0) LineStep HasRequestFault) HasRequestFault (start, w) (streams_of old) (streams_of new) how
-    → OpenerRan key kind old new how
-ran_by {W = W} key kind st start w old new how opened begins apart fair r = record {
+    → OpenerRan rules key kind old new how
+ran_by {W = W} rules key kind st start w old new how opened begins apart fair r = record {
   tables = st;
   opened = opened;
   ran = subst (λ s. Ran LineStep HasRequestFault s (streams_of old) (streams_of new) how) begins
       (ran_of {S = opener.OpenerState × W} (λ p. p.0) LineStep HasRequestFault (start, w) (streams_of old) (streams_of new) how r);
-  rules = record {
-    apart = λ lines text now run. apart_after apart (opener_start st) lines text now run none_open;
-    few = λ lines text now run. few_after (opener_start st) lines text now run (omega arith);
+  kept = record {
+    apart = λ lines text now run. apart_after apart (opener_start rules st) lines text now run none_open;
+    few = λ lines text now run. few_after (opener_start rules st) lines text now run (omega arith);
     fair = λ lines text now run asked answer next step. fair now next asked answer step;
   };
 }
 
 -- the opener at the start
-pub starts : (st : tables.State) (made : opener.OpenerState) (machine : Machine) → made ≡ opener.state machine []
-    → machine ≡ record { tables = st; clock = 0 } → made ≡ opener_start st
-starts st made machine is_made is_machine = is_made ∙ ap (λ m. opener.state m []) is_machine
+pub starts : (rules : OpenRules) (st : tables.State) (made : opener.OpenerState) (machine : Machine) → made ≡ opener.state rules machine []
+    → machine ≡ record { tables = st; clock = 0 } → made ≡ opener_start rules st
+starts rules st made machine is_made is_machine = is_made ∙ ap (λ m. opener.state rules m []) is_machine

@@ -110,7 +110,7 @@ NoRiskFault other left = ⊤
 abbrev pub NothingIsWrong : Request → Outside → Type 0
 NothingIsWrong (Replay key kind) at =
     IsGoodLog IsReplayLine at.left × NoRefusal (ReportsOpening key kind.chain at.past)
-NothingIsWrong (Opener key kind) at =
+NothingIsWrong (Opener rules key kind) at =
     IsGoodLog IsOpenerLine at.left × NoRefusal (ReportsOpening key kind.chain at.past)
 NothingIsWrong Compile at = IsUsable name.Prefixes ReportsTable at.past
 NothingIsWrong Check at = IsUsable name.Asmap ReportsAsmap at.past

@@ -36,7 +36,7 @@ use Rattle.addrman_run.specs.declared.status.Status.TheVariants as status
 -- how a request ends, from the outside before and after the run and the status
 abbrev pub Ends : Request → Outside → Outside → Status → Type 0
 Ends (Replay key kind) old new answer = ReplayEnds key kind old new answer
-Ends (Opener key kind) old new answer = OpenerEnds key kind old new answer
+Ends (Opener rules key kind) old new answer = OpenerEnds rules key kind old new answer
 Ends Compile old new answer = CompileEnds old new answer
 Ends Check old new answer = CheckEnds old new answer
 Ends Decompile old new answer = DecompileEnds old new answer

@@ -10,7 +10,7 @@ use Rattle.addrman_run.specs.declared.status.Status.TheVariants.{Usage}
 -- the commands that read no log
 abbrev pub ReadsNoLog : Request → Type 0
 ReadsNoLog (Replay key kind) = ⊥
-ReadsNoLog (Opener key kind) = ⊥
+ReadsNoLog (Opener rules key kind) = ⊥
 ReadsNoLog Limit = ⊥
 ReadsNoLog LookupLines = ⊥
 ReadsNoLog AddressLines = ⊥

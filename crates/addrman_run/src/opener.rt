@@ -13,6 +13,7 @@ use host_io::{Folder, Sink, Source};
 use log_run::run_log;
 use manager::Manager;
 use opener_lines::{OpenerLog, groups_stay_apart, tries_are_fair};
+use peer_open::OpenRules;
 use std::alloc::Global;
 use std::hash::BuildHasher;
 
@@ -21,6 +22,7 @@ use std::hash::BuildHasher;
 pub(crate) fn opener<L: Source, F: Folder, K: Sink, H: BuildHasher + Drop>(
     alloc: Global,
     hasher: H,
+    rules: OpenRules,
     key: Option<[u8; 32]>,
     kind: FileKind,
     log: &mut L,
@@ -28,7 +30,7 @@ pub(crate) fn opener<L: Source, F: Folder, K: Sink, H: BuildHasher + Drop>(
     out: &mut K,
     learned: &mut Learned,
 ) -> Status
-    ensures outcome { OpenerOutcome key kind
+    ensures outcome { OpenerOutcome rules key kind
         (outside L.Source F.Folder K.Sink log.old folder.old out.old)
         (outside L.Source F.Folder K.Sink log.new folder.new out.new) result }
     ensures taken { TakesAtMost (L.left log.old) (L.left log.new) (MAX_LOG + 1) }
@@ -44,7 +46,7 @@ pub(crate) fn opener<L: Source, F: Folder, K: Sink, H: BuildHasher + Drop>(
         Ok(tables) => tables,
         Err(status) => return status,
     };
-    let mut lines = OpenerLog::make(Manager::open(tables));
+    let mut lines = OpenerLog::make(rules, Manager::open(tables));
     let mut world = ();
     status_of(run_log(alloc, log, &mut lines, &mut world, out, &mut learned.line))
 }

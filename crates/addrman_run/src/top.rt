@@ -136,8 +136,8 @@ fn carry_out<L: Source, F: Folder, K: Sink, H: BuildHasher + Drop>(
         Request::Replay { key, kind } => replay(
             alloc, hasher, key, kind, log, folder, out, learned,
         ),
-        Request::Opener { key, kind } => opener(
-            alloc, hasher, key, kind, log, folder, out, learned,
+        Request::Opener { rules, key, kind } => opener(
+            alloc, hasher, rules, key, kind, log, folder, out, learned,
         ),
         Request::Compile => compile_table(alloc, folder, out, learned),
         Request::Check => write_file_line(alloc, &Check, folder, out, learned),

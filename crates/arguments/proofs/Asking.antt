@@ -22,7 +22,7 @@ use Rattle.peers_file.specs.declared.chain.Chain.{Chain}
 use Rattle.placing.specs.declared.sum.SumRule.{SumRule}
 use Rattle.placing.specs.declared.sum.SumRule.TheVariants.{Bytes}
 use Rattle.arguments.specs.Options.{HasRule, IsAfterColouring, IsAfterGrouping, IsAfterPeers, IsFileOptions, IsListingOptions, IsNet, IsOpeningOptions, IsTables}
-use Rattle.arguments.specs.Table.{AddressOrLines, AreProperSets, Asks, Coloured, Fields, ForBans, Form, Grouped, HasNoValues, IsAddressIn, IsProperRequest, Keyed, Listing, Network, OfCommand, OfSubnet, Opening, PeerOrLines, Period, Reads, Records, Tables, TheAddress, TheAnchors, TheBanFields, TheColours, TheCommand, TheFields, TheGroups, TheKey, TheKind, TheListing, TheOpening, ThePeriod, TheRecords, TheSubnet, TheTables, Values, command_word, form_of, name_of, plain_word, request_values}
+use Rattle.arguments.specs.Table.{AddressOrLines, AreProperSets, Asks, Coloured, Fields, ForBans, Form, Grouped, HasNoValues, IsAddressIn, IsProperRequest, Keyed, Listing, Network, OfCommand, OfSubnet, Opening, Outgoing, PeerOrLines, Period, Reads, Records, Tables, TheAddress, TheAnchors, TheBanFields, TheColours, TheCommand, TheFields, TheGroups, TheKey, TheKind, TheListing, TheOpener, TheOpening, ThePeriod, TheRecords, TheSubnet, TheTables, Values, command_word, form_of, name_of, plain_word, request_values}
 use Rattle.arguments.specs.declared.colours.Colours.{Colours}
 use Rattle.arguments.specs.declared.colours.Colours.TheVariants as colours
 use Rattle.arguments.specs.declared.file_kind.FileKind.{FileKind}
@@ -38,6 +38,7 @@ use Rattle.arguments.specs.declared.tables_from.TablesFrom.TheVariants as from
 use Rattle.risk_parts.specs.declared.addr_set.AddrSet.{AddrSet}
 use Rattle.arguments.proofs.BesideAnchors.{one_show}
 use Rattle.arguments.proofs.BanForms.{one_ban_fields, one_period, one_subnet_in}
+use Rattle.arguments.proofs.OpenerOptions.{one_opener}
 use Rattle.arguments.proofs.WithCore.{no_file_kind, no_listing_kind, no_opening_kind, no_peers, one_file_kind, one_opening_kind, one_peers}
 use Rattle.arguments.proofs.Colourings.{no_colours_kind}
 use Rattle.arguments.proofs.Groupings.{no_grouping_kind, one_grouping_kind}
@@ -87,6 +88,9 @@ one_values (Fields kinds) texts v w is h k = h.1 ∙ ap TheFields (one_list kind
 one_values Opening texts v w is h k =
     let same = one_opening_kind texts h.0 k.0 h.1 k.1 h.3 k.3 in
     h.2 ∙ (λ i. TheOpening (same.0 i) (same.1 i)) ∙ sym k.2
+one_values Outgoing texts v w is h k =
+    let same = one_opener texts h.0 k.0 h.1 k.1 h.2 k.2 h.4 k.4 in
+    h.3 ∙ (λ i. TheOpener (same.0 i) (same.1 i) (same.2 i)) ∙ sym k.3
 one_values Network texts v w is h k = h.1 ∙ ap TheKind (one_file_kind texts h.0 k.0 h.2 k.2) ∙ sym k.1
 one_values Keyed texts v w is h k =
     let same = one_opening_kind texts (Some h.0) (Some k.0) h.1 k.1 h.3 k.3 in
@@ -115,7 +119,7 @@ definite_name other = refl
 
 request_by : CommandName → Values → Request
 request_by name.Replay (TheOpening key kind) = Replay key kind
-request_by name.Opener (TheOpening key kind) = Opener key kind
+request_by name.Opener (TheOpener rules key kind) = Opener rules key kind
 request_by name.Check values = Check
 request_by name.Decompile values = Decompile
 request_by name.Diff (TheRecords peers) = Diff peers

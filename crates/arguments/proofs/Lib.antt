@@ -6,6 +6,7 @@ pub mod Groupings
 pub mod WithRaw
 pub mod BesideAnchors
 pub mod BanForms
+pub mod OpenerOptions
 pub mod Asking
 pub mod Names
 mod OptionExamples

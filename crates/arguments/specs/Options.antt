@@ -8,6 +8,9 @@ use Rattle.ban_list.specs.declared.ban.BanRule.TheVariants.{Labels, Names}
 use Rattle.placing.specs.declared.sum.SumRule.{SumRule}
 use Rattle.placing.specs.declared.sum.SumRule.TheVariants.{Bytes, Bits}
 use Rattle.peers_file.specs.declared.chain.Chain.TheVariants.{Main, Test, Testnet4, Signet, Regtest, Other}
+use Rattle.grammar.specs.Fields.{Kind, Means, Nets, TheNets, TheNumber, Value, u64_field}
+use Rattle.net_addr.specs.NetSet.{none}
+use Rattle.peer_open.specs.declared.rules.OpenRules.{OpenRules}
 use Rattle.arguments.specs.Inside.{Begins}
 use Rattle.arguments.specs.declared.chain_option.ChainOption.{ChainOption}
 use Rattle.arguments.specs.declared.chain_option.ChainOption.TheVariants.{Net, Magic}
@@ -181,3 +184,35 @@ IsPeersOption options (Some kind) = IsFileOptions IsAfterPeers options kind
 abbrev pub HasBanRule : BanRule → List (List ℕ) → List (List ℕ) → Type 0
 HasBanRule Labels rest options = options ≡ rest
 HasBanRule Names rest options = options ≡ codes "--core" ∷ rest
+
+-- the arguments begin with an option whose value is of this kind; or they don't, and the value is
+-- that without the option; the others are the rest
+abbrev pub HasOption : List ℕ → Kind → Value → Value → List (List ℕ) → List (List ℕ) → Type 0
+HasOption name kind without value rest options =
+    ((options ≡ rest) × (value ≡ without))
+    ⊎ ((text : List ℕ) × Means kind text value × Begins name text rest options)
+
+-- the arguments begin with `--skip-bad-ports`, or do not; the others are the rest
+abbrev pub HasPortRule : Bool → List (List ℕ) → List (List ℕ) → Type 0
+HasPortRule true rest options = options ≡ codes "--skip-bad-ports" ∷ rest
+HasPortRule false rest options = options ≡ rest
+
+-- the arguments choose whether ports count, and then how tables are opened
+abbrev pub IsPortOptions : Bool → Option (List ℕ) → List (List ℕ) → FileKind → Type 0
+IsPortOptions skips key options kind =
+    (rest : List (List ℕ)) × HasPortRule skips rest options
+    × IsFileOptions (IsOpeningOptions key) rest kind
+
+-- the services that are needed before these
+abbrev pub IsServiceOptions : ℕ → Bool → Option (List ℕ) → List (List ℕ) → FileKind → Type 0
+IsServiceOptions services skips key options kind =
+    (rest : List (List ℕ))
+    × HasOption (codes "--services") u64_field (TheNumber 0) (TheNumber services) rest options
+    × IsPortOptions skips key rest kind
+
+-- the networks that do not count for groups before these
+abbrev pub IsOpenerOptions : OpenRules → Option (List ℕ) → List (List ℕ) → FileKind → Type 0
+IsOpenerOptions rules key options kind =
+    (rest : List (List ℕ))
+    × HasOption (codes "--exempt") Nets (TheNets none) (TheNets rules.exempt) rest options
+    × IsServiceOptions rules.services rules.skips_bad_ports key rest kind

@@ -11,7 +11,7 @@ use Rattle.names.specs.Text.{IsTextOf}
 use Rattle.net_addr.specs.Address.{Address as NetAddress}
 use Rattle.net_addr.specs.declared.peer.Peer.{Peer}
 use Rattle.peers_file.specs.declared.chain.Chain.{Chain}
-use Rattle.arguments.specs.Options.{HasBanRule, IsAfterAnchors, IsAfterColouring, IsAfterGrouping, IsFileOptions, IsListingOptions, IsNet, IsOpeningOptions, IsPeersOption, IsTables}
+use Rattle.arguments.specs.Options.{HasBanRule, IsAfterAnchors, IsAfterColouring, IsAfterGrouping, IsFileOptions, IsListingOptions, IsNet, IsOpenerOptions, IsOpeningOptions, IsPeersOption, IsTables}
 use Rattle.arguments.specs.declared.colours.Colours.{Colours}
 use Rattle.arguments.specs.declared.colours.Colours.TheVariants as colours
 use Rattle.arguments.specs.declared.file_kind.FileKind.{FileKind}
@@ -21,6 +21,7 @@ use Rattle.arguments.specs.declared.name.CommandName.TheVariants as name
 use Rattle.arguments.specs.declared.request.Request.{Request}
 use Rattle.arguments.specs.declared.request.Request.TheVariants.{Replay, Opener, Compile, Check, Decompile, Diff, Limit, Lookup, LookupLines, Address, AddressLines, Show, Anchors, Picture, Raw, Info, Groups, Risk, FromRaw, Ban, Unban, Banned, Bans, Gen, Trial, Help, Version}
 use Rattle.arguments.specs.declared.tables_from.TablesFrom.{TablesFrom}
+use Rattle.peer_open.specs.declared.rules.OpenRules.{OpenRules}
 use Rattle.risk_parts.specs.Sets.{IsProperSet}
 use Rattle.risk_parts.specs.declared.addr_set.AddrSet.{AddrSet}
 
@@ -70,17 +71,18 @@ NameCommand texts None = texts ≡ []
 NameCommand texts (Some name) = texts ≡ command_word name ∷ []
 
 -- What comes after the name of a command: fields of these kinds; the options `--key` and `--net`;
--- the same, but never without `--key`; only `--net`; the same, or `--raw -` before it; these with
--- `--by` before `--net`, or with `--mark` and sets at the end; `--net` and `--no-key`, or
--- `--anchors` and `--net`; `--peers` and `--net`, or nothing; what makes records one group, and
--- `--net`; a subnet; a subnet and two times, the earlier one first; fields of these kinds for a
--- list of bans; the name of a command or nothing; `-` or a peer; or `-`, or else what people write
--- for an address. `--magic` with digits may be in the place of `--net`. `--core` may be before all
--- options of a file, but not beside `--raw -` or `--anchors`, and before what is for a list of
--- bans.
+-- `--exempt`, `--services` and `--skip-bad-ports`, each or none, before these; these, but never
+-- without `--key`; only `--net`; the same, or `--raw -` before it; these with `--by` before
+-- `--net`, or with `--mark` and sets at the end; `--net` and `--no-key`, or `--anchors` and
+-- `--net`; `--peers` and `--net`, or nothing; what makes records one group, and `--net`; a subnet;
+-- a subnet and two times, the earlier one first; fields of these kinds for a list of bans; the name
+-- of a command or nothing; `-` or a peer; or `-`, or else what people write for an address.
+-- `--magic` with digits may be in the place of `--net`. `--core` may be before all options of a
+-- file, but not beside `--raw -` or `--anchors`, and before what is for a list of bans.
 pub data Form : Type 0 where
   Fields : List Kind → Form
   Opening : Form
+  Outgoing : Form
   Keyed : Form
   Network : Form
   Tables : Form
@@ -99,6 +101,7 @@ pub data Form : Type 0 where
 pub data Values : Type 0 where
   TheFields : List Value → Values
   TheOpening : Option (List ℕ) → FileKind → Values
+  TheOpener : OpenRules → Option (List ℕ) → FileKind → Values
   TheKey : List ℕ → FileKind → Values
   TheKind : FileKind → Values
   TheTables : TablesFrom → Values
@@ -135,6 +138,9 @@ Reads (Fields kinds) texts v =
 Reads Opening texts v =
     (key : Option (List ℕ)) × (kind : FileKind) × (v ≡ TheOpening key kind)
     × IsFileOptions (IsOpeningOptions key) texts kind
+Reads Outgoing texts v =
+    (rules : OpenRules) × (key : Option (List ℕ)) × (kind : FileKind)
+    × (v ≡ TheOpener rules key kind) × IsOpenerOptions rules key texts kind
 Reads Keyed texts v =
     (key : List ℕ) × (kind : FileKind) × (v ≡ TheKey key kind)
     × IsFileOptions (IsOpeningOptions (Some key)) texts kind
@@ -181,7 +187,7 @@ HasNoValues form texts = (values : Values) → ¬ Reads form texts values
 
 abbrev pub form_of : CommandName → Form
 form_of name.Replay = Opening
-form_of name.Opener = Opening
+form_of name.Opener = Outgoing
 form_of name.Lookup = PeerOrLines
 form_of name.Address = AddressOrLines
 form_of name.Show = Listing
@@ -204,7 +210,7 @@ form_of other = Fields []
 -- the name of a request's command
 abbrev pub name_of : Request → CommandName
 name_of (Replay key kind) = name.Replay
-name_of (Opener key kind) = name.Opener
+name_of (Opener rules key kind) = name.Opener
 name_of Compile = name.Compile
 name_of Check = name.Check
 name_of Decompile = name.Decompile
@@ -234,7 +240,7 @@ name_of Version = name.Version
 -- the values of its arguments
 abbrev pub request_values : Request → Values
 request_values (Replay key kind) = TheOpening key kind
-request_values (Opener key kind) = TheOpening key kind
+request_values (Opener rules key kind) = TheOpener rules key kind
 request_values (Lookup peer) = TheFields (ThePeer peer ∷ [])
 request_values (Address addr) = TheAddress addr
 request_values (Show keyed kind) = TheListing keyed kind

@@ -20,6 +20,7 @@ mod grouping;
 mod help;
 mod marks;
 mod name;
+mod opener_options;
 mod options;
 mod pages;
 mod read;

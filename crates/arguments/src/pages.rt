@@ -30,7 +30,8 @@ Codes    0 done, 2 bad usage, 3 a line has an error, 4 peers.dat is refused,
 );
 
 pub(crate) const OPENER: Page = (
-    "opener [--key HEX64] [--net CHAIN] [--core]",
+    "opener [--key HEX64] [--net CHAIN] [--core] [--exempt NETS] [--services N] \
+     [--skip-bad-ports]",
     "carries out a log without saving, and decides to whom to connect",
     "\
 Reads    standard input, a log; asmap.dat and peers.dat, if they are there.
@@ -39,6 +40,11 @@ HEX64    the node's key, 64 hexadecimal digits, needed if there is no peers.dat.
 CHAIN    main, test, testnet4, signet or regtest; main if it is left out. In place of
          --net may be --magic and the 8 hexadecimal digits that its files begin with.
 --core   takes the checksum of asmap.dat in peers.dat as Bitcoin Core 24 to 30 does.
+NETS     networks whose peers do not count for groups, as onion,i2p,cjdns for those
+         of Bitcoin Core since 26; each address is a group of its own.
+N        services that an outbound peer needs, as 9; a feeler's peer needs 1 or 1024.
+--skip-bad-ports   passes over IPv4 and IPv6 peers with the port of another service,
+         as 22, before the 50th try.
 Codes    0 done, 2 bad usage, 3 a line has an error, 4 peers.dat is refused,
          5 asmap.dat is refused, 7 the log cannot be read, 8 the output cannot be
          written, 9 the folder failed, 10 the log is too long, 11 no peers.dat and

@@ -12,6 +12,7 @@ use crate::file_kind::{
     read_records,
 };
 use crate::name::{CommandName, NAMES};
+use crate::opener_options::read_opener;
 use crate::options::{first_word, only_word, read_after_anchors};
 use crate::tables_from::{read_picture, read_tables};
 use ban_list::{BanRule, texts_have_one_meaning};
@@ -63,10 +64,7 @@ fn read_after(alloc: Global, name: CommandName, rest: &[String]) -> Option<Reque
             let (key, kind) = read_opening_kind(rest)?;
             Some(Request::Replay { key, kind })
         }
-        CommandName::Opener => {
-            let (key, kind) = read_opening_kind(rest)?;
-            Some(Request::Opener { key, kind })
-        }
+        CommandName::Opener => read_opener(rest),
         CommandName::Compile => only_name(rest, Request::Compile),
         CommandName::Check => only_name(rest, Request::Check),
         CommandName::Decompile => only_name(rest, Request::Decompile),

@@ -1,6 +1,7 @@
 use crate::{Colours, CommandName, FileKind, Grouping, TablesFrom};
 use ban_list::{BanRule, Subnet};
 use net_addr::{NetAddr, Peer};
+use peer_open::OpenRules;
 use peers_file::Chain;
 
 /// What the arguments ask for.
@@ -15,7 +16,9 @@ pub enum Request {
     },
     /// `opener --key HEX64 --net CHAIN`: carry out the lines of a log that also opens, tests and
     /// closes outbound connections, from the tables that a replay with these options begins with.
+    /// With `--exempt NETS`, `--services N` and `--skip-bad-ports` some rules of Bitcoin Core count.
     Opener {
+        rules: OpenRules,
         key: Option<[u8; 32]>,
         kind: FileKind,
     },

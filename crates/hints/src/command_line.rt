@@ -108,7 +108,7 @@ struct RareOption {
 }
 
 /// The options that few commands have.
-static RARE_OPTIONS: [RareOption; 7] = [
+static RARE_OPTIONS: [RareOption; 10] = [
     RareOption {
         flag: "--peers",
         commands: "show, picture, raw, info, groups, risk and diff",
@@ -136,6 +136,18 @@ static RARE_OPTIONS: [RareOption; 7] = [
     RareOption {
         flag: "--mark",
         commands: "picture",
+    },
+    RareOption {
+        flag: "--exempt",
+        commands: "opener",
+    },
+    RareOption {
+        flag: "--services",
+        commands: "opener",
+    },
+    RareOption {
+        flag: "--skip-bad-ports",
+        commands: "opener",
     },
 ];
 

@@ -2,6 +2,7 @@ use crate::keyword_fields::expected_text;
 use crate::peers_dat::CHAINS;
 use crate::quoting::quoted;
 use crate::syntax::keyword_of;
+use grammar::{read_decimal, read_nets};
 use std::alloc::{AllocError, Global};
 
 /// What the colours of a picture go by.
@@ -22,16 +23,22 @@ enum Name {
     Core,
     Raw,
     By,
+    Exempt,
+    Services,
+    SkipBadPorts,
 }
 
 /// All options.
-static NAMES: [Name; 6] = [
+static NAMES: [Name; 9] = [
     Name::Key,
     Name::Net,
     Name::Magic,
     Name::Core,
     Name::Raw,
     Name::By,
+    Name::Exempt,
+    Name::Services,
+    Name::SkipBadPorts,
 ];
 
 /// An option, and the value that an argument has after `=`.
@@ -51,6 +58,9 @@ impl Name {
             Name::Core => "--core",
             Name::Raw => "--raw",
             Name::By => "--by",
+            Name::Exempt => "--exempt",
+            Name::Services => "--services",
+            Name::SkipBadPorts => "--skip-bad-ports",
         }
     }
 
@@ -68,15 +78,19 @@ impl Name {
             Name::Key => "64 hexadecimal digits",
             Name::Net => "main, test, testnet4, signet or regtest",
             Name::Magic => "8 hexadecimal digits",
-            Name::Core => "",
+            Name::Core | Name::SkipBadPorts => "",
             Name::Raw => "-, which is standard input",
             Name::By => "network, source, group or age",
+            Name::Exempt => {
+                "all, or some of ipv4, ipv6, onion, i2p, cjdns and internal, as ipv4,onion"
+            }
+            Name::Services => "a number below 2^64",
         }
     }
 
     /// Returns `true` if a value comes after it.
     fn has_value(self) -> bool {
-        self != Name::Core
+        self != Name::Core && self != Name::SkipBadPorts
     }
 }
 
@@ -194,6 +208,8 @@ fn explain_value(alloc: Global, name: Name, value: &str) -> Result<Option<String
         Name::Magic => value.len() == MAGIC_DIGITS && is_hex(value),
         Name::Raw => value == "-",
         Name::By => COLOURINGS.contains(&value),
+        Name::Exempt => read_nets(value.as_bytes()).is_ok(),
+        Name::Services => read_decimal(value.as_bytes(), u64::MAX).is_some(),
         _ => is_chain(value),
     };
     if is_right {

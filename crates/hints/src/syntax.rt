@@ -1,7 +1,7 @@
 /// The forms of the command line, one a command.
 static COMMANDS: [&str; 24] = [
     "replay [--key HEX64] [--net CHAIN] [--core]",
-    "opener [--key HEX64] [--net CHAIN] [--core]",
+    "opener [--key HEX64] [--net CHAIN] [--core] [--exempt NETS] [--services N] [--skip-bad-ports]",
     "limit",
     "show [--anchors] [--net CHAIN] [--no-key] [--core]",
     "picture [--by network|source|group|age] [--net CHAIN] [--core|--raw -] [--mark SET..]",

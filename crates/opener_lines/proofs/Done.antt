@@ -21,6 +21,7 @@ use Rattle.opener_lines.specs.Lines.{OpenerLeavesPart, LineStep}
 use Rattle.opener_lines.specs.State.{Answer, Closed, FeelerStep, Full, OutboundStep, OpenerState, RequestStep, Told, after_clash, answer_to_feeler, answer_to_outbound, peers_after, state}
 use Rattle.opener_lines.specs.Texts.{answer_text}
 use Rattle.peer_open.specs.declared.opener.TheConstants.{MAX_OUTBOUND}
+use Rattle.peer_open.specs.declared.rules.OpenRules.{OpenRules}
 use Rattle.opener_lines.specs.Tries.{HasOutcome, try_by, ToKeep, ToTest}
 use Rattle.opener_lines.specs.declared.tries.Outcome.{Outcome}
 use Rattle.opener_lines.specs.declared.command.OpenerCommand.{OpenerCommand}
@@ -45,30 +46,30 @@ on_err P Q (Err e) f h = f h
 abbrev pub HasDone : OpenerState → OpenerCommand → OpenerState → List ℕ → List ℕ → Type 0
 HasDone old asked new before after = (answer : Answer) × RequestStep old asked answer new × (after ≡ before ++ answer_text answer)
 
-pub closed : (machine : Machine) (old new : List groups.Outbound) (peer : Peer) (before after : List ℕ) → new ≡ without_peer peer old
-    → after ≡ before ++ answer_text (Closed (is_open peer old)) → HasDone (state machine old) (request.Close peer) (state machine new) before after
-closed machine old new peer before after without text = (Closed (is_open peer old), (refl, ap (state machine) without), text)
+pub closed : (rules : OpenRules) (machine : Machine) (old new : List groups.Outbound) (peer : Peer) (before after : List ℕ) → new ≡ without_peer peer old
+    → after ≡ before ++ answer_text (Closed (is_open peer old)) → HasDone (state rules machine old) (request.Close peer) (state rules machine new) before after
+closed rules machine old new peer before after without text = (Closed (is_open peer old), (refl, ap (state rules machine) without), text)
 
-pub closed_leaves : (machine : Machine) (old new : List groups.Outbound) (peer : Peer) → new ≡ without_peer peer old
-    → Leaves (state machine old) (request.Close peer) (state machine new)
-closed_leaves machine old new peer without = inr (inl (Closed (is_open peer old), (refl, ap (state machine) without)))
+pub closed_leaves : (rules : OpenRules) (machine : Machine) (old new : List groups.Outbound) (peer : Peer) → new ≡ without_peer peer old
+    → Leaves (state rules machine old) (request.Close peer) (state rules machine new)
+closed_leaves rules machine old new peer without = inr (inl (Closed (is_open peer old), (refl, ap (state rules machine) without)))
 
-pub told : (old new : Machine) (peers : List groups.Outbound) (command : Command) (before after : List ℕ)
+pub told : (rules : OpenRules) (old new : Machine) (peers : List groups.Outbound) (command : Command) (before after : List ℕ)
     → (reply : Reply) × manager.Step old command reply new × (after ≡ before ++ answer_text (Told reply))
-    → HasDone (state old peers) (request.Machine command) (state new peers) before after
-told old new peers command before after step = (Told step.0, (step.0, new, step.1, refl, refl), step.2)
+    → HasDone (state rules old peers) (request.Machine command) (state rules new peers) before after
+told rules old new peers command before after step = (Told step.0, (step.0, new, step.1, refl, refl), step.2)
 
-pub told_leaves : (old new : Machine) (peers : List groups.Outbound) (command : Command)
+pub told_leaves : (rules : OpenRules) (old new : Machine) (peers : List groups.Outbound) (command : Command)
     → manager.LeavesPart old command new ⊎ ((reply : Reply) × manager.Step old command reply new)
-    → Leaves (state old peers) (request.Machine command) (state new peers)
-told_leaves old new peers command (inl part) = inr (inr (new, part, refl))
-told_leaves old new peers command (inr step) = inr (inl (Told step.0, (step.0, new, step.1, refl, refl)))
+    → Leaves (state rules old peers) (request.Machine command) (state rules new peers)
+told_leaves rules old new peers command (inl part) = inr (inr (new, part, refl))
+told_leaves rules old new peers command (inr step) = inr (inl (Told step.0, (step.0, new, step.1, refl, refl)))
 
-pub feeler_leaves : (old new : Machine) (peers : List groups.Outbound) (seed word : ℕ) → new ≡ after_clash old word
-    → Leaves (state old peers) (request.Feeler seed word) (state new peers)
-feeler_leaves old new peers seed word is =
-    let found = some_outcome (try_by (after_clash old word) peers (ToTest (clash_pick old.tables word).answer) seed) in
-    inr (inl (answer_to_feeler found.0, (found.0, found.1, refl, ap (λ m. state m peers) is)))
+pub feeler_leaves : (rules : OpenRules) (old new : Machine) (peers : List groups.Outbound) (seed word : ℕ) → new ≡ after_clash old word
+    → Leaves (state rules old peers) (request.Feeler seed word) (state rules new peers)
+feeler_leaves rules old new peers seed word is =
+    let found = some_outcome (try_by rules (after_clash old word) peers (ToTest (clash_pick old.tables word).answer) seed) in
+    inr (inl (answer_to_feeler found.0, (found.0, found.1, refl, ap (λ m. state rules m peers) is)))
 
 -- ---- of a line
 
@@ -130,25 +131,25 @@ left old new line (request.Close peer) asks (inr (inr part)) = absurd part
 
 -- ---- of the tries
 
-pub outbound_done : (m : Machine) (old new : List groups.Outbound) (seed : ℕ) (found : Outcome) (before after : List ℕ) → length old < MAX_OUTBOUND
-    → HasOutcome (try_by m old ToKeep seed) found → new ≡ peers_after m.tables.places found old
-    → after ≡ before ++ answer_text (answer_to_outbound m.tables.places found)
-    → (answer : Answer) × OutboundStep (state m old) seed answer (state m new) × (after ≡ before ++ answer_text answer)
-outbound_done m old new seed found before after few h is text =
-    (answer_to_outbound m.tables.places found, inr (few, (found, h, refl, ap (state m) is)), text)
+pub outbound_done : (rules : OpenRules) (m : Machine) (old new : List groups.Outbound) (seed : ℕ) (found : Outcome) (before after : List ℕ) → length old < MAX_OUTBOUND
+    → HasOutcome (try_by rules m old ToKeep seed) found → new ≡ peers_after rules m.tables.places found old
+    → after ≡ before ++ answer_text (answer_to_outbound rules m.tables.places found)
+    → (answer : Answer) × OutboundStep (state rules m old) seed answer (state rules m new) × (after ≡ before ++ answer_text answer)
+outbound_done rules m old new seed found before after few h is text =
+    (answer_to_outbound rules m.tables.places found, inr (few, (found, h, refl, ap (state rules m) is)), text)
 
-pub full_done : (m : Machine) (old : List groups.Outbound) (seed : ℕ) (before after : List ℕ) → length old ≡ MAX_OUTBOUND → after ≡ before ++ answer_text Full
-    → (answer : Answer) × OutboundStep (state m old) seed answer (state m old) × (after ≡ before ++ answer_text answer)
-full_done m old seed before after full text = (Full, inl (full, refl, refl), text)
+pub full_done : (rules : OpenRules) (m : Machine) (old : List groups.Outbound) (seed : ℕ) (before after : List ℕ) → length old ≡ MAX_OUTBOUND → after ≡ before ++ answer_text Full
+    → (answer : Answer) × OutboundStep (state rules m old) seed answer (state rules m old) × (after ≡ before ++ answer_text answer)
+full_done rules m old seed before after full text = (Full, inl (full, refl, refl), text)
 
-pub feeler_done : (old new : Machine) (peers : List groups.Outbound) (seed word : ℕ) (occupant : Option (Peer × ℕ)) (found : Outcome) (before after : List ℕ)
-    → occupant ≡ (clash_pick old.tables word).answer → new ≡ after_clash old word → HasOutcome (try_by new peers (ToTest occupant) seed) found
+pub feeler_done : (rules : OpenRules) (old new : Machine) (peers : List groups.Outbound) (seed word : ℕ) (occupant : Option (Peer × ℕ)) (found : Outcome) (before after : List ℕ)
+    → occupant ≡ (clash_pick old.tables word).answer → new ≡ after_clash old word → HasOutcome (try_by rules new peers (ToTest occupant) seed) found
     → after ≡ before ++ answer_text (answer_to_feeler found)
-    → (answer : Answer) × FeelerStep (state old peers) seed word answer (state new peers) × (after ≡ before ++ answer_text answer)
-feeler_done old new peers seed word occupant found before after first is h text =
-    let picked = subst (λ o. HasOutcome (try_by new peers (ToTest o) seed) found) first h in
-    let done = subst (λ m. HasOutcome (try_by m peers (ToTest (clash_pick old.tables word).answer) seed) found) is picked in
-    (answer_to_feeler found, (found, done, refl, ap (λ m. state m peers) is), text)
+    → (answer : Answer) × FeelerStep (state rules old peers) seed word answer (state rules new peers) × (after ≡ before ++ answer_text answer)
+feeler_done rules old new peers seed word occupant found before after first is h text =
+    let picked = subst (λ o. HasOutcome (try_by rules new peers (ToTest o) seed) found) first h in
+    let done = subst (λ m. HasOutcome (try_by rules m peers (ToTest (clash_pick old.tables word).answer) seed) found) is picked in
+    (answer_to_feeler found, (found, done, refl, ap (λ m. state rules m peers) is), text)
 
 -- what holds in any case holds after an error
 pub err_so : {A E : Type 0} (Q : Type 0) (r : Result A E) → Q → OnErr r Q

@@ -7,8 +7,8 @@ use Rattle.peer_rec.specs.declared.answers.Picked.TheVariants as picked
 use Rattle.manager.specs.Machine.{Machine}
 use Rattle.peer_open.specs.Groups.{Outbound}
 use Rattle.peer_open.specs.declared.opener.TheConstants.{MAX_TRIES}
-use Rattle.peer_open.specs.declared.outbound.Verdict.{Verdict}
-use Rattle.opener_lines.specs.Tries.{Aim, HasOutcome, IsFirst, NoneBefore, pick_by, try_by, try_of_pick, try_of_verdict, verdict_by, Try, Take, NoneLeft, Next}
+use Rattle.peer_open.specs.declared.rules.OpenRules.{OpenRules}
+use Rattle.opener_lines.specs.Tries.{Aim, HasOutcome, IsFirst, NoneBefore, pick_by, try_by, try_of_peer, try_of_pick, Try, Take, NoneLeft, Next}
 use Rattle.opener_lines.specs.declared.tries.Outcome.{Outcome}
 use Rattle.opener_lines.specs.declared.tries.Outcome.TheVariants as outcome
 
@@ -87,16 +87,15 @@ one_outcome tries outcome.GaveUp outcome.GaveUp h k = refl
 
 -- ---- by the pick of a try
 
-pub taken_or_next : (m : Machine) (open_peers : List Outbound) (goal : Aim) (seed i : ℕ) (p : Picked) (peer : Peer) (last_try : ℕ) (v : Verdict)
-    → p ≡ pick_by m goal seed i → p ≡ picked.One peer last_try → v ≡ verdict_by goal m.tables.places open_peers peer last_try m.clock i
-    → try_by m open_peers goal seed i ≡ try_of_verdict v peer
-taken_or_next m open_peers goal seed i p peer last_try v by is judged =
-    ap (try_of_pick (λ q t. verdict_by goal m.tables.places open_peers q t m.clock i)) (sym by ∙ is) ∙ ap (λ v. try_of_verdict v peer) (sym judged)
+-- what comes of a pick
+pub of_peer : (rules : OpenRules) (m : Machine) (open_peers : List Outbound) (goal : Aim) (seed i : ℕ) (p : Picked) (peer : Peer) (last_try : ℕ) (result : Try)
+    → p ≡ pick_by m goal seed i → p ≡ picked.One peer last_try → try_of_peer rules m open_peers goal i peer last_try ≡ result → try_by rules m open_peers goal seed i ≡ result
+of_peer rules m open_peers goal seed i p peer last_try result by is comes = ap (try_of_pick (try_of_peer rules m open_peers goal i)) (sym by ∙ is) ∙ comes
 
-pub none_left : (m : Machine) (open_peers : List Outbound) (goal : Aim) (seed i : ℕ) (p : Picked) → p ≡ pick_by m goal seed i → p ≡ picked.Nothing
-    → try_by m open_peers goal seed i ≡ NoneLeft
-none_left m open_peers goal seed i p by is = ap (try_of_pick (λ q t. verdict_by goal m.tables.places open_peers q t m.clock i)) (sym by ∙ is)
+pub none_left : (rules : OpenRules) (m : Machine) (open_peers : List Outbound) (goal : Aim) (seed i : ℕ) (p : Picked) → p ≡ pick_by m goal seed i → p ≡ picked.Nothing
+    → try_by rules m open_peers goal seed i ≡ NoneLeft
+none_left rules m open_peers goal seed i p by is = ap (try_of_pick (try_of_peer rules m open_peers goal i)) (sym by ∙ is)
 
-pub words_end : (m : Machine) (open_peers : List Outbound) (goal : Aim) (seed i : ℕ) (p : Picked) → p ≡ pick_by m goal seed i → p ≡ picked.Exhausted
-    → try_by m open_peers goal seed i ≡ Next
-words_end m open_peers goal seed i p by is = ap (try_of_pick (λ q t. verdict_by goal m.tables.places open_peers q t m.clock i)) (sym by ∙ is)
+pub words_end : (rules : OpenRules) (m : Machine) (open_peers : List Outbound) (goal : Aim) (seed i : ℕ) (p : Picked) → p ≡ pick_by m goal seed i → p ≡ picked.Exhausted
+    → try_by rules m open_peers goal seed i ≡ Next
+words_end rules m open_peers goal seed i p by is = ap (try_of_pick (try_of_peer rules m open_peers goal i)) (sym by ∙ is)

@@ -1,11 +1,11 @@
 -- What holds of the peers that an opener takes.
-use Rattle.std.specs.Prelude.{◌≡◌, ℕ, ◌-◌, ◌<◌, ◌≤◌}
+use Rattle.std.specs.Prelude.{◌≡◌, ℕ, ◌-◌, ◌<◌, ◌≤◌, false}
 use Rattle.net_addr.specs.declared.peer.Peer.{Peer}
 use Rattle.peer_rec.specs.declared.answers.Picked.TheVariants as picked
 use Rattle.manager.specs.Machine.{Machine}
 use Rattle.peer_open.specs.declared.opener.TheConstants.{MAX_TRIES}
 use Rattle.opener_lines.specs.State.{Answer, OpenerState, Opened, Tested, after_clash}
-use Rattle.opener_lines.specs.Tries.{pick_by, Aim, ToKeep, ToTest}
+use Rattle.opener_lines.specs.Tries.{is_passed, pick_by, Aim, ToKeep, ToTest}
 use Rattle.opener_lines.specs.declared.command.OpenerCommand.{OpenerCommand}
 use Rattle.opener_lines.specs.declared.command.OpenerCommand.TheVariants as request
 use Rattle.table_machine.specs.Clashes.{clash_pick}
@@ -21,12 +21,15 @@ pub record IsLateIfRecent (m : Machine) (goal : Aim) (seed : ℕ) (peer : Peer) 
 abbrev pub IsTry : ℕ → Type 0
 IsTry i = (1 ≤ i) × (i ≤ MAX_TRIES)
 
--- the peer that an answer names was taken by the rules
+-- the peer that an answer names was taken by the rules, and those of Bitcoin Core that the opener
+-- follows do not pass it over
 abbrev pub IsFair : OpenerState → OpenerCommand → Answer → Type 0
 IsFair old (request.Outbound seed) (Opened peer group i) =
     IsTry i × IsLateIfRecent old.machine ToKeep seed peer i
+    × (is_passed old.rules ToKeep old.machine.tables peer i ≡ false)
 IsFair old (request.Feeler seed word) (Tested peer i) =
-    IsTry i
-    × IsLateIfRecent (after_clash old.machine word)
-    (ToTest (clash_pick old.machine.tables word).answer) seed peer i
+    let occupant = (clash_pick old.machine.tables word).answer in
+    let machine = after_clash old.machine word in
+    IsTry i × IsLateIfRecent machine (ToTest occupant) seed peer i
+    × (is_passed old.rules (ToTest occupant) machine.tables peer i ≡ false)
 IsFair old asked answer = Unit {0}

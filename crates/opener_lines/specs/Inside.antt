@@ -3,9 +3,10 @@ use Rattle.std.specs.Prelude.{◌≡◌, ◌⊎◌, ℕ, List, ⊤}
 use Rattle.manager.specs.Machine.{Machine}
 use Rattle.manager.specs.Step as manager
 use Rattle.peer_open.specs.Groups.{Outbound}
-use Rattle.placing.specs.Places.{Places, group}
+use Rattle.peer_open.specs.declared.rules.OpenRules.{OpenRules}
+use Rattle.placing.specs.Places.{Places}
 use Rattle.opener_lines.specs.State.{Answer, OpenerState, RequestStep}
-use Rattle.opener_lines.specs.Tries.{HasOutcome, ToKeep, try_by}
+use Rattle.opener_lines.specs.Tries.{HasOutcome, ToKeep, counted, try_by}
 use Rattle.opener_lines.specs.declared.tries.Found.{Found}
 use Rattle.opener_lines.specs.declared.tries.Found.TheVariants as found
 use Rattle.opener_lines.specs.declared.tries.Outcome.{Outcome}
@@ -37,13 +38,14 @@ outcome_of (found.Taken peer its_group tries) = outcome.Taken peer tries
 outcome_of found.Nothing = outcome.Nothing
 outcome_of found.GaveUp = outcome.GaveUp
 
--- the group is that of the peer, if there is one
-abbrev pub HasGroup : Places → Found → Type 0
-HasGroup places (found.Taken peer its_group tries) = its_group.items ≡ group places peer.addr
-HasGroup places other = ⊤
+-- the group is the one that the peer counts in, if there is one
+abbrev pub HasGroup : OpenRules → Places → Found → Type 0
+HasGroup rules places (found.Taken peer its_group tries) =
+    its_group.items ≡ counted rules places peer
+HasGroup rules places other = ⊤
 
 -- what the tries of an outbound connection come to
-pub record Finds (m : Machine) (open_peers : List Outbound)
+pub record Finds (rules : OpenRules) (m : Machine) (open_peers : List Outbound)
     (seed : ℕ) (found : Found) : Type 0 where
-  pub outcome : HasOutcome (try_by m open_peers ToKeep seed) (outcome_of found)
-  pub group : HasGroup m.tables.places found
+  pub outcome : HasOutcome (try_by rules m open_peers ToKeep seed) (outcome_of found)
+  pub group : HasGroup rules m.tables.places found

@@ -10,16 +10,17 @@ use crate::requests::carry_out;
 use grammar::LineFault;
 use log_run::{LineSteps, Stop};
 use manager::Manager;
-use peer_open::Opener;
+use peer_open::{OpenRules, Opener};
 use std::alloc::Global;
 use std::hash::BuildHasher;
 use std::marker::{Brand, Model};
 use std::sync::ledger::{Blank, Ledger};
 use steps::Steps;
 
-/// An address manager with the open outbound peers.
+/// An address manager with the open outbound peers, and the rules by which they are chosen.
 #[derive(Drop)]
 pub struct OpenerLog<'a, H: BuildHasher> {
+    rules: OpenRules,
     manager: Manager<'a, H>,
     opener: Opener,
 }
@@ -33,7 +34,7 @@ impl<'a, H: BuildHasher> Model for OpenerLog<'a, H> {
 
     ghost coded = { Prim.hlevel (codes, coded_places) };
 
-    ghost view = { λ l. state l.manager l.opener };
+    ghost view = { λ l. state l.rules l.manager l.opener };
 }
 
 impl<'a, H: BuildHasher> OpenerLog<'a, H> {
@@ -44,10 +45,11 @@ impl<'a, H: BuildHasher> OpenerLog<'a, H> {
     ghost use Rattle.opener_lines.specs.State.{state};
 
     /// Makes the log of no lines: no peers are open.
-    pub fn make(manager: Manager<'a, H>) -> OpenerLog<'a, H>
-        ensures { result ≡ state manager.entry [] }
+    pub fn make(rules: OpenRules, manager: Manager<'a, H>) -> OpenerLog<'a, H>
+        ensures { result ≡ state rules manager.entry [] }
     {
         OpenerLog {
+            rules,
             manager,
             opener: Opener::make(),
         }
@@ -76,6 +78,7 @@ impl<'a, H: BuildHasher> OpenerLog<'a, H> {
         let mut steps = Steps::<L>::none(blank);
         opener_line(
             alloc,
+            &self.rules,
             &mut self.manager,
             &mut self.opener,
             line,
@@ -122,6 +125,7 @@ impl<'a, H: BuildHasher> LineSteps<()> for OpenerLog<'a, H> {
 /// reply: none for a line that is passed over.
 pub fn opener_line<H: BuildHasher, L: Ledger>(
     alloc: Global,
+    rules: &OpenRules,
     manager: &mut Manager<'_, H>,
     opener: &mut Opener,
     line: &[u8],
@@ -130,14 +134,14 @@ pub fn opener_line<H: BuildHasher, L: Ledger>(
 ) -> Result<(), LineFault>
     requires room { manager.old.tables.next_number < 2 ^ 62 }
     ensures step { OnOk result ((text : List ℕ)
-        × LineStep (state manager.old opener.old) line.now text (state manager.new opener.new)
+        × LineStep (state rules.now manager.old opener.old) line.now text (state rules.now manager.new opener.new)
         × (out.new.items ≡ out.old.items ++ text)) }
     ensures fault { (f : LineFault) → result ≡ Err f → f ≢ LineFault.Memory →
         HasRequestFault line.now f × (manager.new ≡ manager.old) × (opener.new ≡ opener.old) }
     ensures only_fault { (f : LineFault) → HasRequestFault line.now f →
         (result ≡ Err f) ⊎ (result ≡ Err LineFault.Memory) }
     ensures memory { IsErrOf result LineFault.Memory →
-        OpenerLeavesPart (state manager.old opener.old) line.now (state manager.new opener.new) }
+        OpenerLeavesPart (state rules.now manager.old opener.old) line.now (state rules.now manager.new opener.new) }
     ensures list { OnErr result (out.new.items ≡ out.old.items) }
     ensures numbers { manager.new.tables.next_number ≤ manager.old.tables.next_number + 1000 }
 {
@@ -146,7 +150,7 @@ pub fn opener_line<H: BuildHasher, L: Ledger>(
         Ok(Some(request)) => request,
         Err(fault) => return Err(fault),
     };
-    match carry_out(alloc, manager, opener, &request, out, steps) {
+    match carry_out(alloc, rules, manager, opener, &request, out, steps) {
         Ok(()) => Ok(()),
         Err(_) => Err(LineFault::Memory),
     }

@@ -15,7 +15,7 @@ use crate::{OpenerCommand, Outcome};
 use log_lines::{Command, Reply, put_reply};
 use manager::Manager;
 use net_addr::{Memory, Peer, put_text};
-use peer_open::{MAX_OUTBOUND, Opener};
+use peer_open::{MAX_OUTBOUND, OpenRules, Opener};
 use std::alloc::Global;
 use std::hash::BuildHasher;
 use std::sync::ledger::Ledger;
@@ -24,6 +24,7 @@ use steps::Steps;
 /// Carries out a request, and appends the text of its answer.
 pub(crate) fn carry_out<H: BuildHasher, L: Ledger>(
     alloc: Global,
+    rules: &OpenRules,
     manager: &mut Manager<'_, H>,
     opener: &mut Opener,
     request: &OpenerCommand,
@@ -33,18 +34,20 @@ pub(crate) fn carry_out<H: BuildHasher, L: Ledger>(
     requires done { CanBeDone request.now }
     requires room { manager.old.tables.next_number < 2 ^ 62 }
     ensures step { OnOk result ((answer : Answer)
-        × RequestStep (state manager.old opener.old) request.now
-        answer (state manager.new opener.new)
+        × RequestStep (state rules.now manager.old opener.old) request.now
+        answer (state rules.now manager.new opener.new)
         × (out.new.items ≡ out.old.items ++ answer_text answer)) }
     ensures err { OnErr result
-        (Leaves (state manager.old opener.old) request.now (state manager.new opener.new)) }
+        (Leaves (state rules.now manager.old opener.old) request.now (state rules.now manager.new opener.new)) }
     ensures list { OnErr result (out.new.items ≡ out.old.items) }
     ensures numbers { manager.new.tables.next_number ≤ manager.old.tables.next_number + 1000 }
 {
     match request {
-        OpenerCommand::Outbound { seed } => outbound(alloc, manager, opener, *seed, out, steps),
+        OpenerCommand::Outbound { seed } => {
+            outbound(alloc, rules, manager, opener, *seed, out, steps)
+        },
         OpenerCommand::Feeler { seed, word } => {
-            feeler(alloc, manager, opener, *seed, *word, out, steps)
+            feeler(alloc, rules, manager, opener, *seed, *word, out, steps)
         }
         OpenerCommand::Close { peer } => close(opener, peer, out),
         OpenerCommand::Machine(command) => tell(alloc, manager, command, out, steps),
@@ -55,6 +58,7 @@ pub(crate) fn carry_out<H: BuildHasher, L: Ledger>(
 /// added, so that nothing has changed if memory runs out.
 fn outbound<H: BuildHasher, L: Ledger>(
     alloc: Global,
+    rules: &OpenRules,
     manager: &Manager<'_, H>,
     opener: &mut Opener,
     seed: u32,
@@ -62,7 +66,7 @@ fn outbound<H: BuildHasher, L: Ledger>(
     steps: &mut Steps<L>,
 ) -> Result<(), Memory>
     ensures step { OnOk result ((answer : Answer)
-        × OutboundStep (state manager.now opener.old) seed answer (state manager.now opener.new)
+        × OutboundStep (state rules.now manager.now opener.old) seed answer (state rules.now manager.now opener.new)
         × (out.new.items ≡ out.old.items ++ answer_text answer)) }
     ensures err { OnErr result (opener.new ≡ opener.old) }
     ensures list { OnErr result (out.new.items ≡ out.old.items) }
@@ -70,11 +74,11 @@ fn outbound<H: BuildHasher, L: Ledger>(
     if opener.len() == MAX_OUTBOUND {
         return put_text(b"full\n", out);
     }
-    match find_outbound(manager, opener, seed, steps) {
+    match find_outbound(rules, manager, opener, seed, steps) {
         Found::Taken { peer, group, tries } => {
             let text = opened_text(alloc, &peer, group.as_slice(), tries)?;
             put_text(text.as_slice(), out)?;
-            opener.add_peer(peer, group);
+            opener.add_counted(peer, group);
             Ok(())
         }
         Found::Nothing => put_text(b"none\n", out),
@@ -86,6 +90,7 @@ fn outbound<H: BuildHasher, L: Ledger>(
 /// selects, or else a peer of the new table.
 fn feeler<H: BuildHasher, L: Ledger>(
     alloc: Global,
+    rules: &OpenRules,
     manager: &mut Manager<'_, H>,
     opener: &Opener,
     seed: u32,
@@ -95,14 +100,14 @@ fn feeler<H: BuildHasher, L: Ledger>(
 ) -> Result<(), Memory>
     requires room { manager.old.tables.next_number < 2 ^ 62 }
     ensures step { OnOk result ((answer : Answer)
-        × FeelerStep (state manager.old opener.now) seed word answer (state manager.new opener.now)
+        × FeelerStep (state rules.now manager.old opener.now) seed word answer (state rules.now manager.new opener.now)
         × (out.new.items ≡ out.old.items ++ answer_text answer)) }
     ensures err { OnErr result (manager.new ≡ after_clash manager.old word) }
     ensures list { OnErr result (out.new.items ≡ out.old.items) }
     ensures numbers { manager.new.tables.next_number ≤ manager.old.tables.next_number + 1000 }
 {
     let occupant = occupant(alloc, manager, word, steps);
-    match find_feeler(manager, opener, &occupant, seed, steps) {
+    match find_feeler(rules, manager, opener, &occupant, seed, steps) {
         Outcome::Taken { peer, tries } => {
             let text = tested_text(alloc, &peer, tries)?;
             put_text(text.as_slice(), out)

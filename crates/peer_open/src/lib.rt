@@ -10,7 +10,9 @@
 mod law;
 mod opener;
 mod outbound;
+mod rules;
 
 pub use law::limits;
 pub use opener::{MAX_OUTBOUND, MAX_TRIES, Opener};
 pub use outbound::Verdict;
+pub use rules::{BAD_PORTS, MAX_COUNTED, OpenRules};

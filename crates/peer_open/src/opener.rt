@@ -3,8 +3,9 @@ ghost use Rattle.peer_open.specs.Groups.{AreApart, groups, peers, has_group, is_
 ghost use Rattle.peer_open.specs.Verdicts.{IsTooSoon, judge, judge_feeler, is_recent};
 ghost use Rattle.peer_open.specs.declared.outbound.Verdict as verdict;
 
-use crate::Verdict;
 use crate::outbound::Outbound;
+use crate::rules::widened;
+use crate::{MAX_COUNTED, Verdict};
 use arrayvec::ArrayVec;
 use net_addr::Peer;
 use std::alloc::{AllocError, Global};
@@ -93,6 +94,16 @@ impl Opener {
 
     /// Appends a peer that was opened. There must be room for it, and no open peer in its group.
     pub fn add_peer(&mut self, peer: Peer, group: ArrayVec<u8, 11>)
+        requires room { length self.old < MAX_OUTBOUND }
+        requires group { ¬ Contains (groups self.old) group.items }
+        ensures { self.new ≡ with_peer peer group.items self.old }
+    {
+        self.add_counted(peer, widened(&group));
+    }
+
+    /// Appends a peer that was opened, with the group that it counts in. There must be room for it,
+    /// and no open peer in that group.
+    pub fn add_counted(&mut self, peer: Peer, group: ArrayVec<u8, MAX_COUNTED>)
         requires room { length self.old < MAX_OUTBOUND }
         requires group { ¬ Contains (groups self.old) group.items }
         ensures { self.new ≡ with_peer peer group.items self.old }

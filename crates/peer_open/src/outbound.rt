@@ -2,6 +2,7 @@ ghost use Rattle.std.specs.Prelude.{◌≡◌, not};
 ghost use Rattle.net_addr.specs.Same.{same_peer};
 ghost use Rattle.peer_open.specs.Groups.{outbound, is_in_group};
 
+use crate::MAX_COUNTED;
 use arrayvec::ArrayVec;
 use net_addr::{NetAddr, Peer};
 use std::marker::Model;
@@ -17,11 +18,11 @@ pub enum Verdict {
     Recent,
 }
 
-/// An open outbound peer, and its network group.
+/// An open outbound peer, and the group that it counts in.
 #[derive(Drop)]
 pub(crate) struct Outbound {
     peer: Peer,
-    group: ArrayVec<u8, 11>,
+    group: ArrayVec<u8, MAX_COUNTED>,
 }
 
 impl Model for Outbound {
@@ -34,7 +35,7 @@ impl Model for Outbound {
 
 impl Outbound {
     /// Makes an open peer with its group.
-    pub(crate) fn of(peer: Peer, group: ArrayVec<u8, 11>) -> Outbound
+    pub(crate) fn of(peer: Peer, group: ArrayVec<u8, MAX_COUNTED>) -> Outbound
         ensures { result ≡ outbound peer group.items }
     {
         Outbound { peer, group }

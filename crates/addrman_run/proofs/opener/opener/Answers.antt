@@ -10,10 +10,10 @@ pub returns-clause-outcome : goal.returns-clause-outcome
 returns-clause-outcome g c =
     let old = outside g.L.Source g.F.Folder g.K.Sink c.args.log.now c.args.folder.now c.args.out.now in
     let new = outside g.L.Source g.F.Folder g.K.Sink c.run_log.new.log c.open_folder.new.folder c.run_log.new.out in
-    subst (OpenerOutcome c.args.key c.args.kind old new) (sym c.status_of.ensures)
-    (by_status (OpenerRan c.args.key c.args.kind old new) (NotOpened c.args.key c.args.kind.chain old new) c.run_log.result
-    (ran_by c.args.key c.args.kind c.in-Ok.tables c.make-lines.result _ old new c.run_log.result c.in-Ok.ensures.found
-    (starts c.in-Ok.tables c.make-lines.result c.open.result c.make-lines.ensures c.open.ensures)
+    subst (OpenerOutcome c.args.rules c.args.key c.args.kind old new) (sym c.status_of.ensures)
+    (by_status (OpenerRan c.args.rules c.args.key c.args.kind old new) (NotOpened c.args.key c.args.kind.chain old new) c.run_log.result
+    (ran_by c.args.rules c.args.key c.args.kind c.in-Ok.tables c.make-lines.result _ old new c.run_log.result c.in-Ok.ensures.found
+    (starts c.args.rules c.in-Ok.tables c.make-lines.result c.open.result c.make-lines.ensures c.open.ensures)
     c.groups_stay_apart.ensures c.tries_are_fair.ensures c.run_log.ensures.ran.ran))
 
 pub returns-clause-read : goal.returns-clause-read

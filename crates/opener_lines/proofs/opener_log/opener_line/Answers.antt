@@ -20,7 +20,7 @@ returns-in-Ok-clause-only_fault g c = λ f has. absurd (asked_no_fault c.args.li
 
 pub returns-clause-memory : goal.returns-clause-memory
 returns-clause-memory g c = λ _.
-    left (state c.args.manager.now c.args.opener.now) (state c.carry_out.new.manager c.carry_out.new.opener) c.args.line.now c.in-Ok-Some.request (search rules)
+    left (state c.args.rules.now c.args.manager.now c.args.opener.now) (state c.args.rules.now c.carry_out.new.manager c.carry_out.new.opener) c.args.line.now c.in-Ok-Some.request (search rules)
     c.in-Err-carry_out.ensures.err
 
 pub carry_out-requires-clause-done : goal.carry_out-requires-clause-done

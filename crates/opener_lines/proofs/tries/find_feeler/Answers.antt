@@ -1,26 +1,31 @@
-use Rattle.std.proofs.Common.{◌∙◌, ap}
-use Rattle.peer_open.specs.Verdicts.{judge_feeler}
-use Rattle.opener_lines.specs.Tries.{ToTest, try_by, try_of_verdict}
-use Rattle.opener_lines.proofs.Outcomes.{none_before_next, taken_or_next, words_end}
+use Rattle.std.proofs.Common.{◌∙◌, ap, rules, if◌then◌else◌}
+use Rattle.opener_lines.specs.Tries.{Next, Take, ToTest, try_by}
+use Rattle.opener_lines.proofs.Outcomes.{none_before_next, of_peer, words_end}
 use Rattle.opener_lines.proofs.tries.find_feeler.Goals as goal
-use Rattle.opener_lines.proofs.tries.find_feeler.Goals.{in-One+in-SameGroup, in-One+in-Recent, in-Exhausted}
+use Rattle.opener_lines.proofs.tries.find_feeler.Goals.{in-One+else-is_taken, in-Exhausted}
+
+pub returns-then-is_taken : goal.returns-then-is_taken
+returns-then-is_taken g c =
+    let peer = c.in-One.peer in
+    let told = c.is_taken.ensures c.args.occupant.now ∙ ap (λ b. if b then Take peer else Next) c.if-is_taken.true in
+    record {
+      least = search rules;
+      most = search rules;
+      before = c.loop-number.invariant;
+      comes = of_peer c.args.rules.now c.args.manager.now c.args.opener.now (ToTest c.args.occupant.now) c.args.seed c.loop-number.number c.pick_of_feeler.result peer
+          c.in-One.last_try (Take peer) c.pick_of_feeler.ensures c.in-One.is told;
+    }
 
 pub loop-number-preserved : goal.loop-number-preserved
 loop-number-preserved g c =
+    let o = c.args.rules.now in
     let m = c.args.manager.now in
     let peers = c.args.opener.now in
-    let seed = c.args.seed in
     let goal = ToTest c.args.occupant.now in
     let i = c.loop-number.number in
-    let pick = c.pick_of_feeler.result in
-    none_before_next (try_by m peers goal seed) i c.loop-number.invariant (elim c.match-pick_of_feeler.branch [
-      | in-One+in-SameGroup w ↦
-          let judged = w.judge_feeler.ensures.value ∙ ap (λ t. judge_feeler w.in-One.last_try t i) w.clock.ensures in
-          taken_or_next m peers goal seed i pick w.in-One.peer w.in-One.last_try w.judge_feeler.result c.pick_of_feeler.ensures w.in-One.is judged
-          ∙ ap (λ v. try_of_verdict v w.in-One.peer) w.in-SameGroup.is
-      | in-One+in-Recent w ↦
-          let judged = w.judge_feeler.ensures.value ∙ ap (λ t. judge_feeler w.in-One.last_try t i) w.clock.ensures in
-          taken_or_next m peers goal seed i pick w.in-One.peer w.in-One.last_try w.judge_feeler.result c.pick_of_feeler.ensures w.in-One.is judged
-          ∙ ap (λ v. try_of_verdict v w.in-One.peer) w.in-Recent.is
-      | in-Exhausted w ↦ words_end m peers goal seed i pick c.pick_of_feeler.ensures w.in-Exhausted.is
+    none_before_next (try_by o m peers goal c.args.seed) i c.loop-number.invariant (elim c.match-pick_of_feeler.branch [
+      | in-One+else-is_taken w ↦
+          let told = w.is_taken.ensures c.args.occupant.now ∙ ap (λ b. if b then Take w.in-One.peer else Next) w.if-is_taken.false in
+          of_peer o m peers goal c.args.seed i c.pick_of_feeler.result w.in-One.peer w.in-One.last_try Next c.pick_of_feeler.ensures w.in-One.is told
+      | in-Exhausted w ↦ words_end o m peers goal c.args.seed i c.pick_of_feeler.result c.pick_of_feeler.ensures w.in-Exhausted.is
     ])

@@ -1,7 +1,7 @@
 use Rattle.std.proofs.Common.{Contains, [], ◌∷◌, ◌++◌, sym, subst}
 use Rattle.peer_open.specs.Groups.{AreApart, groups}
 use Rattle.peer_open.proofs.Apart.{apart-with_peer}
-use Rattle.peer_open.proofs.opener.Opener.add_peer.Goals as goal
+use Rattle.peer_open.proofs.opener.Opener.add_counted.Goals as goal
 
 pub invariant_of-self : goal.invariant_of-self
 invariant_of-self c =
