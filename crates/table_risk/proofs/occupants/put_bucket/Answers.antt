@@ -1,0 +1,8 @@
+use Rattle.table_risk.specs.Occupants.{slot_occupant}
+use Rattle.table_risk.proofs.Slots.{one_more}
+use Rattle.table_risk.proofs.occupants.put_bucket.Goals as goal
+
+pub loop-slot-preserved : goal.loop-slot-preserved
+loop-slot-preserved g c =
+    one_more (slot_occupant (g.T.TableView.view c.args.tables.now) c.args.in_new c.args.bucket) c.args.out.now.items c.loop-slot.slot c.loop-slot.out.items c.put_occupant.new.out.items
+    c.loop-slot.invariant c.in_ok-put_occupant.ensures
