@@ -1,10 +1,11 @@
 -- What makes records one group, and the arguments after it.
-use Rattle.std.proofs.Common.{◌≡◌, ℕ, List, [], ◌∷◌, codes, drop, find, get_or, Option, Some, refl, sym, ap, subst, ◌∙◌, arith}
+use Rattle.std.proofs.Common.{◌≡◌, ℕ, List, [], ◌∷◌, codes, drop, find, get_or, Option, Some, None, true, false, refl, sym, ap, subst, ◌∙◌, arith, true≢false}
 use Rattle.std.specs.Prelude.{bytes_eq, unwrap_or}
+use Rattle.std.proofs.lemmas.Option.{none-some}
 use Rattle.peers_file.specs.declared.chain.Chain.{Chain}
 use Rattle.placing.specs.declared.sum.SumRule.{SumRule}
 use Rattle.placing.specs.declared.sum.SumRule.TheVariants.{Bytes}
-use Rattle.arguments.specs.Options.{HasRule, IsAfterGrouping, IsFileOptions, IsNet, IsRaw, grouping_word}
+use Rattle.arguments.specs.Options.{HasRule, IsAfterGrouping, IsFileOptions, IsNet, IsRaw, grouping_word, takes_listing}
 use Rattle.arguments.specs.declared.file_kind.FileKind.{FileKind}
 use Rattle.arguments.specs.declared.grouping.Grouping.{Grouping}
 use Rattle.arguments.specs.declared.grouping.Grouping.TheVariants.{Source, Peer, Network, Sets}
@@ -69,3 +70,16 @@ raw_or_grouping by texts rest chain raw (left, begins, net) = no_third by (ap (�
 pub no_grouping_kind : (words rest : List (List ℕ)) (r : SumRule) → HasRule r rest words → (r ≡ Bytes → (tail : List (List ℕ)) → words ≡ codes "--core" ∷ tail → ⊥)
     → ((by : Grouping) (c : Chain) → IsAfterGrouping by rest c → ⊥) → (by : Grouping) (kind : FileKind) → IsFileOptions (IsAfterGrouping by) words kind → ⊥
 no_grouping_kind words rest r h none never by kind is = not_read IsAfterGrouping one_after apart_after words rest r h none never by kind is
+
+-- BESIDE A LISTING
+
+pub no_listed : (texts : List (List ℕ)) (r : Option (Grouping × Chain)) → r ≡ None → ((by : Grouping) (chain : Chain) → IsAfterGrouping by texts chain → r ≡ Some (by, chain))
+    → (by : Grouping) (chain : Chain) → takes_listing by ≡ true → IsAfterGrouping by texts chain → ⊥
+no_listed texts r none only by chain takes asks = none-some (by, chain) (sym none ∙ only by chain asks)
+
+pub other_listed : (texts : List (List ℕ)) (r : Option (Grouping × Chain)) (read : Grouping) (c : Chain) → r ≡ Some (read, c) → takes_listing read ≡ false
+    → ((by : Grouping) (chain : Chain) → IsAfterGrouping by texts chain → r ≡ Some (by, chain))
+    → (by : Grouping) (chain : Chain) → takes_listing by ≡ true → IsAfterGrouping by texts chain → ⊥
+other_listed texts r read c is refused only by chain takes asks =
+    let same : Some (read, c) ≡ Some (by, chain) = sym is ∙ only by chain asks in
+    true≢false (sym takes ∙ ap (λ (o : Option (Grouping × Chain)). takes_listing (unwrap_or o (read, c)).0) (sym same) ∙ refused)
