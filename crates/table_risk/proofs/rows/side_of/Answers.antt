@@ -14,5 +14,5 @@ pub returns : goal.returns
 returns g c = λ i. record {
   classes = (c.in_ok-classes.ensures ∙ (λ j. map (class_by (c.places.ensures j) c.args.what ((c.as_slice.ensures.value ∙ c.in_ok-occupants.ensures) j)) chances)) i;
   wanted = c.wanted_in-wanted.ensures i;
-  slots = ap length c.in_ok-occupants.ensures i;
+  slots = (c.len.ensures ∙ ap length c.in_ok-occupants.ensures) i;
 }
