@@ -1,5 +1,5 @@
 -- The records in the slots of the tables, each with its starts, are those of the state, each with its own.
-use Rattle.std.proofs.Common.{◌≡◌, ℕ, ◌+◌, ◌*◌, ◌/◌, ◌%◌, ◌^◌, ◌≤◌, ◌<◌, min, Bool, true, false, cond, not, ◌&&◌, ◌==◌, nat_le, nat_lt, List, [], ◌∷◌, length, All, map, Contains, find, filter_map, count_by, sum_by, is_some, Option, Some, None, refl, sym, ap, subst, ◌∙◌, arith, if◌then◌else◌}
+use Rattle.std.proofs.Common.{◌≡◌, ℕ, ◌+◌, ◌*◌, ◌/◌, ◌%◌, ◌^◌, ◌≤◌, ◌<◌, min, Bool, true, false, cond, not, ◌&&◌, ◌==◌, nat_le, nat_lt, List, length, map, Contains, count_by, sum_by, is_some, Option, refl, sym, ap, ◌∙◌, arith, if◌then◌else◌}
 use Rattle.std.specs.List.{range_with_len}
 use Rattle.std.proofs.Math.Nat.{min-le_right}
 use Rattle.std.proofs.lemmas.Bool.{leb-true, lt-ltb}
@@ -14,18 +14,18 @@ use Rattle.peer_rec.specs.declared.rec.Rec.{Rec}
 use Rattle.risk_laws.specs.Classes.{chance_after, chances, kind_of, kinds_of, starts_for}
 use Rattle.risk_laws.proofs.Classed.{class_sums, sum_filter, sum_map}
 use Rattle.risk_laws.proofs.ClassesOf.{by_taken}
-use Rattle.risk_sum.specs.Kinds.{accepting, taken_by}
+use Rattle.risk_sum.specs.Kinds.{accepting}
 use Rattle.risk_sum.specs.declared.kinds.Kind.{Kind}
 use Rattle.table_groups.specs.View.{view_of, occupant_at}
 use Rattle.table_laws.specs.Chances.{picks, words_for}
 use Rattle.table_laws.specs.Odds.{leading_starts}
-use Rattle.table_laws.specs.Rounds.{around, gap, holds}
+use Rattle.table_laws.specs.Rounds.{gap, holds}
 use Rattle.table_laws.proofs.Counts.{count_none, count_not, sum_agree}
 use Rattle.table_laws.proofs.Draws.{count_pairs, sum_times}
 use Rattle.table_machine.specs.Picks.{bucket_count, first_candidate, is_accepted, is_wanted}
 use Rattle.table_machine.specs.Picks as picks
 use Rattle.table_machine.specs.Sound.{IsSound}
-use Rattle.table_machine.specs.State.{State, new_rec_at, tried_rec_at}
+use Rattle.table_machine.specs.State.{State}
 use Rattle.table_machine.proofs.Lists.{All-from_Contains}
 use Rattle.table_risk.specs.Occupants as occupants
 use Rattle.table_risk.specs.Occupants.{occupants_of, starts_at, starts_in}
@@ -33,7 +33,7 @@ use Rattle.table_risk.specs.Shares.{kinds_for}
 use Rattle.table_risk.specs.declared.occupants.Occupant.{Occupant}
 use Rattle.table_risk.proofs.KindsOf.{once}
 use Rattle.table_risk.proofs.MaskGaps.{wanted_all}
-use Rattle.table_risk.proofs.Slots.{by_slots, by_starts, slot_sum}
+use Rattle.table_risk.proofs.Slots.{by_slots, by_starts}
 
 -- with the largest factor each word accepts each record
 some_chance : (now : ℕ) (r : Rec) → 1 ≤ chance r now

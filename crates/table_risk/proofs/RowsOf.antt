@@ -15,7 +15,7 @@ use Rattle.table_groups.proofs.Values.{after_visit, groups-are, values-are}
 use Rattle.table_groups.specs.Tally.{by_bytes, groups_of, noted, once, tally_of, value_in}
 use Rattle.table_groups.specs.View.{View, wanted_new, wanted_tried}
 use Rattle.table_machine.specs.Picks.{first_factor}
-use Rattle.table_risk.specs.Grouping.{group_by, is_in}
+use Rattle.table_risk.specs.Grouping.{group_by}
 use Rattle.table_risk.specs.Inside.{Counts, FitsSide, Sides, class_by, classes_share, firsts_by, index_visits, is_none, kind_in, lower, row_in, side_by, side_share}
 use Rattle.table_risk.specs.Occupants.{occupants_of}
 use Rattle.table_risk.specs.Rows.{first_in, has_none, row_by, rows_of, search, share_in, wanted_in}

@@ -108,8 +108,8 @@ pub fn sets_text<L: Ledger, H: BuildHasher, G: BuildHasher>(
     requires { All IsProperSet sets.now }
     ensures { IfOk result (λ text. text.items ≡ sets_text tables.now now sets.now) }
 {
-    let part = ten_part(alloc, hasher, tables, sets, now, steps)?;
     let known = known_of(alloc, tables, now, steps)?;
+    let part = ten_part(alloc, hasher, tables, sets, now, steps)?;
     let mut out = Vec::new(alloc);
     put_heading_of(tables, &mut out, steps)?;
     put_lines(

@@ -6,6 +6,9 @@ use Rattle.table_risk.specs.Tens.{ten_part}
 use Rattle.table_risk.specs.Texts.{heading_of}
 use Rattle.table_risk.proofs.set_text.sets_text.Goals as goal
 
+pub ten_part-requires : goal.ten_part-requires
+ten_part-requires g c = c.in_ok-known.ensures.sound
+
 pub returns : goal.returns
 returns g c =
     let st = c.args.tables.now in

@@ -1,9 +1,6 @@
-use Rattle.std.proofs.Common.{◌≡◌, Bool, ℕ, true, false, ap, is_some, sym, ◌∙◌, arith, count_by}
-use Rattle.std.specs.List.{range_with_len}
+use Rattle.std.proofs.Common.{Bool, ℕ, true, false, is_some, sym, ◌∙◌, arith}
 use Rattle.table_groups.specs.Slots.{some_in}
 use Rattle.table_groups.specs.View.{occupant_at}
-use Rattle.table_machine.specs.Picks.{bucket_count}
-use Rattle.table_risk.specs.Texts.{used_buckets}
 use Rattle.table_risk.proofs.MaskGaps.{count_more, plus_zero}
 use Rattle.table_risk.proofs.text.used_buckets.Goals as goal
 use Rattle.table_risk.proofs.text.used_buckets.Goals.{then-is_used, else-is_used}
