@@ -176,10 +176,13 @@ def tables_options(arguments: list[bytes]) -> FileKind:
 
 
 def grouping_options(arguments: list[bytes]) -> tuple[str, FileKind]:
-    """What makes records one group, and the file of peers, by the arguments of `risk`."""
-    arguments, core = without_core(arguments)
+    """What makes records one group, and where the tables come from, by the arguments of `risk`. With `-` standard input names
+    sets, and has no listing."""
+    arguments, core, listed = source_options(arguments)
     by = usage(next((own for own in GROUPINGS if arguments[:1] == [own.encode()]), None))
-    return by, FileKind(chain_option(arguments[1:]), core)
+    if listed and by == "-":
+        usage()
+    return by, FileKind(chain_option(arguments[1:]), core, listed)
 
 
 def marks_in(texts: list[bytes]) -> list:

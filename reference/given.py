@@ -6,7 +6,7 @@ from folder import Stop
 from text import read_digits
 
 TAKE_CORE = "replay opener show picture raw info groups risk from-raw diff ban unban banned bans".split()
-TAKE_RAW = "picture info groups".split()
+TAKE_RAW = "picture info groups risk".split()
 TAKE_KEY_FILE = "replay opener from-raw".split()
 # The options that name a file: in whose place it is read, and the commands that take the option.
 OTHER_FILES = {"--peers": ("peers.dat", "show picture raw info groups risk diff".split()),

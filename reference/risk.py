@@ -18,14 +18,20 @@ TRY_LISTS = 1 << 62  # the lists of tries that the bound on them is a part of
 RESTARTED = 600  # a time at which no try is of the last ten minutes, as after a restart
 
 
-def starts(table: dict[int, dict[int, int]]) -> dict[int, int]:
-    """From how many starts, a bucket and a slot of it, a round comes to each record of a table."""
-    found: dict[int, int] = {}
-    for bucket in table.values():
-        slots = sorted(bucket)
+def leading(table: dict[int, dict[int, int]]):
+    """The slots of a table that have a record, and from how many starts, a bucket and a slot of it, a round comes to each."""
+    for bucket, used in table.items():
+        slots = sorted(used)
         for index, slot in enumerate(slots):
-            gap = (slot - slots[index - 1]) % SLOTS or SLOTS
-            found[bucket[slot]] = found.get(bucket[slot], 0) + gap
+            yield bucket, slot, (slot - slots[index - 1]) % SLOTS or SLOTS
+
+
+def starts(table: dict[int, dict[int, int]]) -> dict[int, int]:
+    """From how many starts a round comes to each record of a table."""
+    found: dict[int, int] = {}
+    for bucket, slot, gap in leading(table):
+        number = table[bucket][slot]
+        found[number] = found.get(number, 0) + gap
     return found
 
 
@@ -134,17 +140,29 @@ class Sides:
         return [at_most(whole, by_chance(leads, self.chances, numbers)) for leads, whole in zip(self.leading, self.all)]
 
 
+def by_group(tables: Tables, table: dict[int, dict[int, int]], by: str, now: int) -> dict[object, dict[int, int]]:
+    """How many starts lead to the slots of each group's records, by their chances. A slot has the record that its tables say:
+    those of a listing may say another one in each slot of a peer."""
+    found: dict[object, dict[int, int]] = {}
+    for bucket, slot, gap in leading(table):
+        record = tables.occupant(table, bucket, slot)
+        own, likely = found.setdefault(key(tables, by, record), {}), chance(record, now)
+        own[likely] = own.get(likely, 0) + gap
+    return found
+
+
 def risk(tables: Tables, by: str, now: int = RESTARTED) -> str:
     """The numbers of the tables, and a line for each group."""
-    members: dict[object, list[Record]] = {}
+    firsts: dict[object, Record] = {}
     for record in sorted(tables.records.values(), key=lambda record: record.number):
-        members.setdefault(key(tables, by, record), []).append(record)
+        firsts.setdefault(key(tables, by, record), record)
     sides = Sides(tables, now)
+    theirs = [by_group(tables, table, by, now) for table in (tables.new, tables.tried)]
     rows = []
-    for own, records in members.items():
-        new, tried = sides.searches([record.number for record in records])
+    for own, first in firsts.items():
+        new, tried = (at_most(whole, groups.get(own, {})) for whole, groups in zip(sides.all, theirs))
         picks = millionths(new + tried, sides.searched * WHOLE)
-        rows.append((-picks, own, f"{by} {name(tables, by, records[0])}: {parts_of(new, tried, sides.searched)}"))
+        rows.append((-picks, own, f"{by} {name(tables, by, first)}: {parts_of(new, tried, sides.searched)}"))
     return "\n".join([heading(tables), *(line for _, _, line in sorted(rows, key=lambda row: row[:2]))])
 
 

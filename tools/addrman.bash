@@ -57,7 +57,7 @@ _addrman() {
             mapfile -t COMPREPLY < <(compgen -W "--key --key-file --net --magic --core --asmap" -- "$word")
             ;;
         risk)
-            mapfile -t COMPREPLY < <(compgen -W "source peer network - --net --magic --core --peers --asmap" -- "$word")
+            mapfile -t COMPREPLY < <(compgen -W "source peer network - --net --magic --core --raw --peers --asmap" -- "$word")
             ;;
         picture)
             mapfile -t COMPREPLY < <(compgen -W "--by --net --magic --core --raw --mark --peers --asmap" -- "$word")

@@ -19,7 +19,7 @@ static CORE_COMMANDS: [&str; 14] = [
 ];
 
 /// The commands that take `--raw -`.
-static RAW_COMMANDS: [&str; 3] = ["picture", "info", "groups"];
+static RAW_COMMANDS: [&str; 4] = ["picture", "info", "groups", "risk"];
 
 /// The commands that take `--key-file FILE`.
 static KEY_COMMANDS: [&str; 3] = ["replay", "opener", "from-raw"];

@@ -31,6 +31,8 @@ use Rattle.peers_file.specs.declared.chain.Chain.{Chain}
 use Rattle.arguments.specs.declared.file_kind.FileKind.{FileKind}
 use Rattle.arguments.specs.declared.grouping.Grouping.{Grouping}
 use Rattle.arguments.specs.declared.grouping.Grouping.TheVariants.{Source, Peer, Network, Sets}
+use Rattle.arguments.specs.declared.tables_from.TablesFrom.{TablesFrom}
+use Rattle.arguments.specs.declared.tables_from.TablesFrom.TheVariants as from
 use Rattle.raw_file.specs.Faults.{HasListingFault}
 use Rattle.raw_file.specs.Input.{IsInput, IsLong}
 use Rattle.raw_file.specs.Listing.{first_fault}
@@ -62,6 +64,7 @@ use Rattle.addrman_run.specs.Tables.{ReportsTable}
 use Rattle.addrman_run.specs.TextOut.{TextEnds}
 use Rattle.arguments.specs.declared.request.Request.TheVariants as request
 use Rattle.arguments.specs.declared.request.Request.{Request}
+use Rattle.addrman_run.specs.Views.{ReportsView}
 use Rattle.addrman_run.specs.declared.status.Status.TheVariants.{Done, LogLine, PeersRefused, AsmapRefused, ReadFault, WriteFault, DiskFault, LogTooLong, NoKey, Memory, LineTooLong, NoFile, RawRefused}
 use Rattle.addrman_run.specs.declared.status.Status.{Status}
 
@@ -310,12 +313,13 @@ text_done IsText Refuses old new DiskFault ends cause fine calm = absurd (no_dis
 text_done IsText Refuses old new other ends cause fine calm = absurd (fine other ends.text.0)
 
 -- `risk`, for groups or for sets
-risk_done : (by : Grouping) (kind : FileKind) (old new : Outside) (answer : Status) → RiskEnds by kind old new answer → HasCause old new answer
-    → NoRiskFault by old.left → NoRefusal (ReportsTables kind.chain old.past) → Calm old new → IsDone answer
-risk_done Source kind old new answer ends cause fine good calm = text_done _ _ old new answer ends.ends cause good calm
-risk_done Peer kind old new answer ends cause fine good calm = text_done _ _ old new answer ends.ends cause good calm
-risk_done Network kind old new answer ends cause fine good calm = text_done _ _ old new answer ends.ends cause good calm
-risk_done Sets kind old new answer ends cause fine good calm = risk_lines_done kind old new answer ends cause fine good calm
+risk_done : (by : Grouping) (tables : TablesFrom) (old new : Outside) (answer : Status) → RiskEnds by tables old new answer → HasCause old new answer
+    → NoRiskFault by old.left → NoRefusal (ReportsView tables old.past) → Calm old new → IsDone answer
+risk_done Source tables old new answer ends cause fine good calm = text_done _ _ old new answer ends.ends cause good calm
+risk_done Peer tables old new answer ends cause fine good calm = text_done _ _ old new answer ends.ends cause good calm
+risk_done Network tables old new answer ends cause fine good calm = text_done _ _ old new answer ends.ends cause good calm
+risk_done Sets (from.File kind) old new answer ends cause fine good calm = risk_lines_done kind old new answer ends cause fine good calm
+risk_done Sets (from.Listing chain) old new answer ends cause fine good calm = absurd ends
 
 compile_done : (old new : Outside) (answer : Status) → CompileEnds old new answer → HasCause old new answer → IsUsable name.Prefixes ReportsTable old.past → Calm old new → IsDone answer
 compile_done old new Done ends cause fine calm = inl refl
@@ -418,7 +422,7 @@ done_if (request.Picture colours from) old new answer ends cause fine calm still
 done_if (request.Raw kind) old new answer ends cause fine calm still = text_done _ _ old new answer ends.ends cause fine calm
 done_if (request.Info from) old new answer ends cause fine calm still = text_done _ _ old new answer ends.ends cause fine calm
 done_if (request.Groups from) old new answer ends cause fine calm still = text_done _ _ old new answer ends.ends cause fine calm
-done_if (request.Risk by kind) old new answer ends cause fine calm still = risk_done by kind old new answer ends cause fine.0 fine.1 calm
+done_if (request.Risk by tables) old new answer ends cause fine calm still = risk_done by tables old new answer ends cause fine.0 fine.1 calm
 done_if (request.FromRaw key kind) old new answer ends cause fine calm still = from_raw_done key kind old new answer ends cause fine calm (still tt)
 done_if (request.Ban rule subnet now until) old new answer ends cause fine calm still = bans_done _ _ old new answer ends cause fine calm
 done_if (request.Unban rule subnet) old new answer ends cause fine calm still = bans_done _ _ old new answer ends cause fine calm

@@ -130,8 +130,8 @@ NothingIsWrong (Picture colours from) at = NoRefusal (ReportsView from at.past)
 NothingIsWrong (Raw kind) at = NoRefusal (ReportsTables kind.chain at.past)
 NothingIsWrong (Info from) at = NoRefusal (ReportsView from at.past)
 NothingIsWrong (Groups from) at = NoRefusal (ReportsView from at.past)
-NothingIsWrong (Risk by kind) at =
-    NoRiskFault by at.left × NoRefusal (ReportsTables kind.chain at.past)
+NothingIsWrong (Risk by from) at =
+    NoRiskFault by at.left × NoRefusal (ReportsView from at.past)
 NothingIsWrong (FromRaw key kind) at = IsGoodListing at.left × NoRefusal (ReportsAsmap at.past)
 NothingIsWrong (Ban rule subnet now until) at = NoRefusal (ReportsBans rule at.past)
 NothingIsWrong (Unban rule subnet) at = NoRefusal (ReportsBans rule at.past)

@@ -52,7 +52,7 @@ Ends (Picture colours from) old new answer = PictureEnds colours from old new an
 Ends (Raw kind) old new answer = RawEnds kind old new answer
 Ends (Info from) old new answer = InfoEnds from old new answer
 Ends (Groups from) old new answer = GroupsEnds from old new answer
-Ends (Risk by kind) old new answer = RiskEnds by kind old new answer
+Ends (Risk by from) old new answer = RiskEnds by from old new answer
 Ends (FromRaw key kind) old new answer = FromRawEnds key kind old new answer
 Ends (Ban rule subnet now until) old new answer =
     BansEnds rule (ban_change rule (ban_of subnet now until)) old new answer

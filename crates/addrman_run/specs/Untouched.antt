@@ -14,7 +14,7 @@ ReadsNoLog (Opener rules key kind) = ⊥
 ReadsNoLog Limit = ⊥
 ReadsNoLog LookupLines = ⊥
 ReadsNoLog AddressLines = ⊥
-ReadsNoLog (Risk by kind) = AsksNoLog by
+ReadsNoLog (Risk by from) = AsksNoLog by
 ReadsNoLog (FromRaw key kind) = ⊥
 ReadsNoLog other = ⊤
 

@@ -165,7 +165,7 @@ fn carry_out<L: Source, F: Folder, K: Sink, H: BuildHasher + Drop>(
         Request::Groups { from } => {
             write_view(alloc, hasher, &GroupsText, from, folder, out, learned)
         }
-        Request::Risk { by, kind } => risk(alloc, hasher, by, kind, log, folder, out, learned),
+        Request::Risk { by, from } => risk(alloc, hasher, by, from, log, folder, out, learned),
         Request::FromRaw { key, kind } => from_raw(alloc, key, kind, log, folder, out, learned),
         Request::Ban {
             rule,

@@ -21,7 +21,7 @@ use Rattle.net_addr.specs.declared.peer.Peer.{Peer}
 use Rattle.peers_file.specs.declared.chain.Chain.{Chain}
 use Rattle.placing.specs.declared.sum.SumRule.{SumRule}
 use Rattle.placing.specs.declared.sum.SumRule.TheVariants.{Bytes}
-use Rattle.arguments.specs.Options.{HasRule, IsAfterColouring, IsAfterGrouping, IsAfterPeers, IsFileOptions, IsListingOptions, IsNet, IsOpeningOptions, IsTables}
+use Rattle.arguments.specs.Options.{HasRule, IsAfterColouring, IsAfterGrouping, IsAfterPeers, IsFileOptions, IsListingOptions, IsNet, IsOpeningOptions, IsTables, TakesTables, takes_listing}
 use Rattle.arguments.specs.Table.{AddressOrLines, AreProperSets, Asks, Coloured, Fields, ForBans, Form, Grouped, HasNoValues, IsAddressIn, IsProperRequest, Keyed, Listing, Network, OfCommand, OfSubnet, Opening, Outgoing, PeerOrLines, Period, Reads, Records, Tables, TheAddress, TheAnchors, TheBanFields, TheColours, TheCommand, TheFields, TheGroups, TheKey, TheKind, TheListing, TheOpener, TheOpening, ThePeriod, TheRecords, TheSubnet, TheTables, Values, command_word, form_of, name_of, plain_word, request_values}
 use Rattle.arguments.specs.declared.colours.Colours.{Colours}
 use Rattle.arguments.specs.declared.colours.Colours.TheVariants as colours
@@ -41,10 +41,10 @@ use Rattle.arguments.proofs.BanForms.{one_ban_fields, one_period, one_subnet_in}
 use Rattle.arguments.proofs.OpenerOptions.{one_opener}
 use Rattle.arguments.proofs.WithCore.{no_file_kind, no_listing_kind, no_opening_kind, no_peers, one_file_kind, one_opening_kind, one_peers}
 use Rattle.arguments.proofs.Colourings.{no_colours_kind}
-use Rattle.arguments.proofs.Groupings.{no_grouping_kind, one_grouping_kind}
+use Rattle.arguments.proofs.Groupings.{no_grouping_kind}
 use Rattle.arguments.proofs.Marking.{proper_sets}
 use Rattle.arguments.proofs.Names.{name_found, one_command}
-use Rattle.arguments.proofs.WithRaw.{one_colours_tables, one_net_tables}
+use Rattle.arguments.proofs.WithRaw.{one_colours_tables, one_grouping_tables, one_net_tables}
 
 -- THE VALUES
 
@@ -102,7 +102,7 @@ one_values Coloured texts v w is h k =
 one_values Listing texts v w is h k = one_show texts v w h k
 one_values Records texts v w is h k = h.1 ∙ ap TheRecords (one_peers texts h.0 k.0 h.2 k.2) ∙ sym k.1
 one_values Grouped texts v w is h k =
-    let same = one_grouping_kind texts h.0 k.0 h.1 k.1 h.3 k.3 in
+    let same = one_grouping_tables texts h.0 k.0 h.1 k.1 h.4 k.4 in
     h.2 ∙ (λ i. TheGroups (same.0 i) (same.1 i)) ∙ sym k.2
 one_values OfSubnet texts v w is h k = one_subnet_in texts v w h k
 one_values Period texts v w is h k = one_period texts v w h k
@@ -134,7 +134,7 @@ request_by name.Picture (TheColours colours from) = Picture colours from
 request_by name.Raw (TheKind kind) = Raw kind
 request_by name.Info (TheTables from) = Info from
 request_by name.Groups (TheTables from) = Groups from
-request_by name.Risk (TheGroups by kind) = Risk by kind
+request_by name.Risk (TheGroups by from) = Risk by from
 request_by name.FromRaw (TheKey key kind) = FromRaw key kind
 request_by name.Ban (ThePeriod rule subnet now until) = Ban rule subnet now until
 request_by name.Unban (TheSubnet rule subnet) = Unban rule subnet
@@ -220,6 +220,19 @@ sets_in : Values → List (Option AddrSet)
 sets_in (TheColours (colours.Marks marks) tables) = marks.sets
 sets_in other = []
 
+takes_in : Values → Bool
+takes_in (TheGroups by (from.Listing chain)) = takes_listing by
+takes_in other = true
+
+takes_some : (by : Grouping) (tables : TablesFrom) → TakesTables tables by → takes_in (TheGroups by tables) ≡ true
+unfolding takes_in
+takes_some by (from.File kind) takes = refl
+takes_some by (from.Listing chain) takes = takes
+
+takes : (texts : List (List ℕ)) (by : Grouping) (chain : Chain) → Reads Grouped texts (TheGroups by (from.Listing chain)) → takes_listing by ≡ true
+unfolding takes_in
+takes texts by chain (other, tables, is, has, chosen) = ap takes_in is ∙ takes_some other tables has
+
 few_lines : (texts : List (List ℕ)) (start lines : ℕ) → Reads (form_of name.Gen) texts (TheFields (TheNumber start ∷ TheNumber lines ∷ [])) → lines ≤ MAX_LINES
 unfolding numbers_in fields_in
 few_lines texts start lines reads = by texts reads.0 (ap fields_in reads.1) reads.2
@@ -260,6 +273,7 @@ module _ (law : (rule : BanRule) (text : List ℕ) (s : Subnet) → IsSubnetText
   proper (Gen start lines) texts reads = few_lines texts start lines reads
   proper (Trial start lines) texts reads = few_lines texts start lines reads
   proper (Picture (colours.Marks marks) tables) texts reads = proper_marks texts marks tables reads
+  proper (Risk by (from.Listing chain)) texts reads = takes texts by chain reads
   proper other texts reads = tt
 
   pub proper_asked : (words : List (List ℕ)) (r : Option Request) → IfSome r (Asks words) → IfSome r IsProperRequest
@@ -322,9 +336,9 @@ module _ (texts rest : List (List ℕ)) (rule : SumRule) (has : HasRule rule res
       (keyed : Bool) (kind : FileKind) → IsFileOptions (IsListingOptions keyed) texts kind → ⊥
   no_listing r is only keyed kind chosen = no_listing_kind texts rest rule has none (λ keyed chain chosen. none-some (keyed, chain) (sym is ∙ only keyed chain chosen)) keyed kind chosen
 
-  pub no_grouping : (r : Option (Grouping × Chain)) → r ≡ None → ((by : Grouping) (chain : Chain) → IsAfterGrouping by rest chain → r ≡ Some (by, chain)) → HasNoValues Grouped texts
-  unfolding HasNoValues
-  no_grouping r is only v reads = no_grouping_kind texts rest rule has none (λ by chain chosen. none-some (by, chain) (sym is ∙ only by chain chosen)) reads.0 reads.1 reads.3
+  pub no_grouping : (r : Option (Grouping × Chain)) → r ≡ None → ((by : Grouping) (chain : Chain) → IsAfterGrouping by rest chain → r ≡ Some (by, chain)) →
+      (by : Grouping) (kind : FileKind) → IsFileOptions (IsAfterGrouping by) texts kind → ⊥
+  no_grouping r is only by kind chosen = no_grouping_kind texts rest rule has none (λ other chain asks. none-some (other, chain) (sym is ∙ only other chain asks)) by kind chosen
 
   pub no_colours : (r : Option (Colours × Chain)) → r ≡ None → ((x : Colours) (chain : Chain) → IsAfterColouring x rest chain → r ≡ Some (x, chain)) →
       (x : Colours) (kind : FileKind) → IsFileOptions (IsAfterColouring x) texts kind → ⊥

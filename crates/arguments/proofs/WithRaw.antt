@@ -1,18 +1,20 @@
 -- `--raw -` before the other options, which do not begin with it.
 use Rattle.std.proofs.Common.{◌≡◌, ℕ, List, [], ◌∷◌, codes, Option, Some, None, inl, inr, refl, sym, ap, subst, ◌∙◌, arith}
-use Rattle.std.specs.Prelude.{⊤}
+use Rattle.std.specs.Prelude.{⊤, true}
 use Rattle.std.proofs.lemmas.Option.{none-some}
 use Rattle.peers_file.specs.declared.chain.Chain.{Chain}
 use Rattle.placing.specs.declared.sum.SumRule.{SumRule}
 use Rattle.placing.specs.declared.sum.SumRule.TheVariants.{Bytes, Bits}
-use Rattle.arguments.specs.Options.{HasRule, IsAfterColouring, IsFileOptions, IsNet, IsRaw, IsTables}
-use Rattle.arguments.specs.Table.{Coloured, HasNoValues, Network, Tables, TheKind}
+use Rattle.arguments.specs.Options.{HasRule, IsAfterColouring, IsAfterGrouping, IsFileOptions, IsNet, IsRaw, IsTables, takes_listing}
+use Rattle.arguments.specs.Table.{Coloured, Grouped, HasNoValues, Network, Tables, TheKind}
 use Rattle.arguments.specs.declared.colours.Colours.{Colours}
 use Rattle.arguments.specs.declared.file_kind.FileKind.{FileKind}
+use Rattle.arguments.specs.declared.grouping.Grouping.{Grouping}
 use Rattle.arguments.specs.declared.tables_from.TablesFrom.{TablesFrom}
 use Rattle.arguments.specs.declared.tables_from.TablesFrom.TheVariants.{File, Listing}
 use Rattle.arguments.proofs.Choosing.{one_net, same_start, third_of_none, third_of_raw}
 use Rattle.arguments.proofs.Colourings.{apart_colours, one_colours, raw_or_colours}
+use Rattle.arguments.proofs.Groupings.{apart_after, one_after, raw_or_grouping}
 use Rattle.arguments.proofs.Marking.{third_at_most, third_byte}
 use Rattle.arguments.proofs.WithCore.{apart_net, one_kind}
 
@@ -29,7 +31,7 @@ module _ {X : Type 0} (IsChosen : X → List (List ℕ) → Chain → Type 0)
   raw_or_by texts rest left Bytes x chain raw has p = raw_or x left rest chain (subst (IsRaw rest) has raw) p
   raw_or_by texts rest left Bits x chain raw has p = omega (arith, third_of_raw rest texts raw, ap third_byte has)
 
-  raw_or_file : (texts rest : List (List ℕ)) (x : X) (kind : FileKind) → IsRaw rest texts → IsFileOptions (IsChosen x) texts kind → ⊥
+  pub raw_or_file : (texts rest : List (List ℕ)) (x : X) (kind : FileKind) → IsRaw rest texts → IsFileOptions (IsChosen x) texts kind → ⊥
   raw_or_file texts rest x kind raw (left, has, p) = raw_or_by texts rest left kind.rule x kind.chain raw has p
 
   pub one_tables : (texts : List (List ℕ)) (x y : X) (a b : TablesFrom) → IsTables (IsChosen x) texts a → IsTables (IsChosen y) texts b → (x ≡ y) × (a ≡ b)
@@ -90,3 +92,18 @@ pub no_filed_colours : (texts : List (List ℕ)) → ((rest : List (List ℕ)) �
     → ((x : Colours) (kind : FileKind) → IsFileOptions (IsAfterColouring x) texts kind → ⊥) → HasNoValues Coloured texts
 unfolding HasNoValues
 no_filed_colours texts off none v (x, from, is, tables) = not_filed IsAfterColouring texts off none x from tables
+
+-- what makes records one group is chosen, too
+pub one_grouping_tables : (texts : List (List ℕ)) (x y : Grouping) (a b : TablesFrom) → IsTables (IsAfterGrouping x) texts a → IsTables (IsAfterGrouping y) texts b → (x ≡ y) × (a ≡ b)
+one_grouping_tables texts x y a b h k = one_tables IsAfterGrouping one_after apart_after raw_or_grouping texts x y a b h k
+
+pub no_listed_grouping : (texts rest : List (List ℕ)) → IsRaw rest texts → ((by : Grouping) (chain : Chain) → takes_listing by ≡ true → IsAfterGrouping by rest chain → ⊥) → HasNoValues Grouped texts
+unfolding HasNoValues
+no_listed_grouping texts rest raw never v (by, File kind, is, takes, tables) = raw_or_file IsAfterGrouping one_after apart_after raw_or_grouping texts rest by kind raw tables
+no_listed_grouping texts rest raw never v (by, Listing chain, is, takes, (left, also, p)) =
+    never by chain takes (subst (λ ts. IsAfterGrouping by ts chain) (same_start (codes "--raw") (codes "-") (codes "-") left rest texts also raw).1 p)
+
+pub no_filed_grouping : (texts : List (List ℕ)) → ((rest : List (List ℕ)) → IsRaw rest texts → ⊥)
+    → ((by : Grouping) (kind : FileKind) → IsFileOptions (IsAfterGrouping by) texts kind → ⊥) → HasNoValues Grouped texts
+unfolding HasNoValues
+no_filed_grouping texts off none v (by, from, is, takes, tables) = not_filed IsAfterGrouping texts off none by from tables

@@ -174,6 +174,16 @@ IsTables IsChosen options (from.File kind) = IsFileOptions IsChosen options kind
 IsTables IsChosen options (from.Listing chain) =
     (rest : List (List ℕ)) × IsRaw rest options × IsChosen rest chain
 
+-- whether a listing can be in the place of peers.dat: standard input has one thing, the listing or
+-- the lines that name sets
+abbrev pub takes_listing : Grouping → Bool
+takes_listing Sets = false
+takes_listing other = true
+
+abbrev pub TakesTables : TablesFrom → Grouping → Type 0
+TakesTables (from.Listing chain) by = takes_listing by ≡ true
+TakesTables other by = ⊤
+
 -- the arguments ask for the records of a file of this kind, or for none
 abbrev pub IsPeersOption : List (List ℕ) → Option FileKind → Type 0
 IsPeersOption options None = options ≡ []

@@ -1,5 +1,5 @@
 -- The table of the commands, and what arguments ask for.
-use Rattle.std.specs.Prelude.{◌≡◌, ◌≢◌, ◌⊎◌, ◌<◌, ◌≤◌, ℕ, Bool, List, [], ◌∷◌, Option, Some, None, codes, decimal, bytes_eq, if◌then◌else◌, ⊤}
+use Rattle.std.specs.Prelude.{◌≡◌, ◌≢◌, ◌⊎◌, ◌<◌, ◌≤◌, ℕ, Bool, true, List, [], ◌∷◌, Option, Some, None, codes, decimal, bytes_eq, if◌then◌else◌, ⊤}
 use Rattle.ban_list.specs.BanFile.{max_time}
 use Rattle.ban_list.specs.Subnet.{IsProper}
 use Rattle.ban_list.specs.SubnetText.{IsSubnetTextBy}
@@ -11,7 +11,7 @@ use Rattle.names.specs.Text.{IsTextOf}
 use Rattle.net_addr.specs.Address.{Address as NetAddress}
 use Rattle.net_addr.specs.declared.peer.Peer.{Peer}
 use Rattle.peers_file.specs.declared.chain.Chain.{Chain}
-use Rattle.arguments.specs.Options.{HasBanRule, IsAfterAnchors, IsAfterColouring, IsAfterGrouping, IsFileOptions, IsListingOptions, IsNet, IsOpenerOptions, IsOpeningOptions, IsPeersOption, IsTables}
+use Rattle.arguments.specs.Options.{HasBanRule, IsAfterAnchors, IsAfterColouring, IsAfterGrouping, IsFileOptions, IsListingOptions, IsNet, IsOpenerOptions, IsOpeningOptions, IsPeersOption, IsTables, TakesTables, takes_listing}
 use Rattle.arguments.specs.declared.colours.Colours.{Colours}
 use Rattle.arguments.specs.declared.colours.Colours.TheVariants as colours
 use Rattle.arguments.specs.declared.file_kind.FileKind.{FileKind}
@@ -22,6 +22,7 @@ use Rattle.arguments.specs.declared.request.Request.{Request}
 use Rattle.arguments.specs.declared.request.Request.TheVariants.{Replay, Opener, Compile, Check, Decompile, Diff, Limit, Lookup, LookupLines, Address, AddressLines, Show, Anchors, Picture, Raw, Info, Groups, Risk, FromRaw, Ban, Unban, Banned, Bans, Gen, Trial, Help, Version}
 use Rattle.arguments.specs.declared.tables_from.TablesFrom.{TablesFrom}
 use Rattle.peer_open.specs.declared.rules.OpenRules.{OpenRules}
+use Rattle.arguments.specs.declared.tables_from.TablesFrom.TheVariants as from
 use Rattle.risk_parts.specs.Sets.{IsProperSet}
 use Rattle.risk_parts.specs.declared.addr_set.AddrSet.{AddrSet}
 
@@ -74,11 +75,12 @@ NameCommand texts (Some name) = texts ≡ command_word name ∷ []
 -- `--exempt`, `--services` and `--skip-bad-ports`, each or none, before these; these, but never
 -- without `--key`; only `--net`; the same, or `--raw -` before it; these with `--by` before
 -- `--net`, or with `--mark` and sets at the end; `--net` and `--no-key`, or `--anchors` and
--- `--net`; `--peers` and `--net`, or nothing; what makes records one group, and `--net`; a subnet;
--- a subnet and two times, the earlier one first; fields of these kinds for a list of bans; the name
--- of a command or nothing; `-` or a peer; or `-`, or else what people write for an address.
--- `--magic` with digits may be in the place of `--net`. `--core` may be before all options of a
--- file, but not beside `--raw -` or `--anchors`, and before what is for a list of bans.
+-- `--net`; `--peers` and `--net`, or nothing; what makes records one group, and `--net`, or
+-- `--raw -` before these; a subnet; a subnet and two times, the earlier one first; fields of these
+-- kinds for a list of bans; the name of a command or nothing; `-` or a peer; or `-`, or else what
+-- people write for an address. `--magic` with digits may be in the place of `--net`. `--core` may be
+-- before all options of a file, but not beside `--raw -` or `--anchors`, and before what is for a
+-- list of bans.
 pub data Form : Type 0 where
   Fields : List Kind → Form
   Opening : Form
@@ -109,7 +111,7 @@ pub data Values : Type 0 where
   TheListing : Bool → FileKind → Values
   TheAnchors : Chain → Values
   TheRecords : Option FileKind → Values
-  TheGroups : Grouping → FileKind → Values
+  TheGroups : Grouping → TablesFrom → Values
   TheSubnet : BanRule → Subnet → Values
   ThePeriod : BanRule → Subnet → ℕ → ℕ → Values
   TheBanFields : BanRule → List Value → Values
@@ -156,8 +158,8 @@ Reads Listing texts v =
 Reads Records texts v =
     (peers : Option FileKind) × (v ≡ TheRecords peers) × IsPeersOption texts peers
 Reads Grouped texts v =
-    (by : Grouping) × (kind : FileKind) × (v ≡ TheGroups by kind)
-    × IsFileOptions (IsAfterGrouping by) texts kind
+    (by : Grouping) × (from : TablesFrom) × (v ≡ TheGroups by from) × TakesTables from by
+    × IsTables (IsAfterGrouping by) texts from
 Reads OfSubnet texts v =
     (rule : BanRule) × (rest : List (List ℕ)) × (subnet : Subnet) × (v ≡ TheSubnet rule subnet)
     × HasBanRule rule rest texts × IsSubnetIn rule rest subnet
@@ -226,7 +228,7 @@ name_of (Picture colours from) = name.Picture
 name_of (Raw kind) = name.Raw
 name_of (Info from) = name.Info
 name_of (Groups from) = name.Groups
-name_of (Risk by kind) = name.Risk
+name_of (Risk by from) = name.Risk
 name_of (FromRaw key kind) = name.FromRaw
 name_of (Ban rule subnet now until) = name.Ban
 name_of (Unban rule subnet) = name.Unban
@@ -249,7 +251,7 @@ request_values (Picture colours from) = TheColours colours from
 request_values (Raw kind) = TheKind kind
 request_values (Info from) = TheTables from
 request_values (Groups from) = TheTables from
-request_values (Risk by kind) = TheGroups by kind
+request_values (Risk by from) = TheGroups by from
 request_values (FromRaw key kind) = TheKey key kind
 request_values (Diff peers) = TheRecords peers
 request_values (Ban rule subnet now until) = ThePeriod rule subnet now until
@@ -276,12 +278,13 @@ AreProperSets [] = ⊤
 AreProperSets (None ∷ sets) = AreProperSets sets
 AreProperSets (Some set ∷ sets) = IsProperSet set × AreProperSets sets
 
--- the subnet of a request, if it has one, is proper, and so are the sets of a picture; a generated
--- log is within its limit
+-- the subnet of a request, if it has one, is proper, and so are the sets of a picture; groups of a
+-- listing are not named by sets; a generated log is within its limit
 abbrev pub IsProperRequest : Request → Type 0
 IsProperRequest (Ban rule subnet now until) = IsProper subnet
 IsProperRequest (Unban rule subnet) = IsProper subnet
 IsProperRequest (Gen start lines) = lines ≤ MAX_LINES
 IsProperRequest (Trial start lines) = lines ≤ MAX_LINES
 IsProperRequest (Picture (colours.Marks marks) from) = AreProperSets marks.sets
+IsProperRequest (Risk by (from.Listing chain)) = takes_listing by ≡ true
 IsProperRequest other = ⊤

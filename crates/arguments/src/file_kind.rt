@@ -1,8 +1,9 @@
 ghost use Rattle.std.specs.Prelude.{◌≡◌, ◌≢◌, ℕ, Bool, List, ◌∷◌, codes, map, string_bytes, IfSome, IfNone};
 ghost use Rattle.arguments.specs.Options.{HasRule, IsAfterColouring, IsAfterGrouping, IsFileOptions, IsListingOptions, IsNet, IsOpeningOptions, IsPeersOption};
-ghost use Rattle.arguments.specs.Table.{Grouped, HasNoValues, Keyed, Network, Opening, Reads, Records, name_of, request_values};
+ghost use Rattle.arguments.specs.Table.{HasNoValues, Keyed, Network, Opening, Reads, Records, name_of, request_values};
 ghost use Rattle.arguments.specs.declared.colours.Colours.{Colours};
 ghost use Rattle.arguments.specs.declared.file_kind.FileKind.{FileKind};
+ghost use Rattle.arguments.specs.declared.grouping.Grouping.{Grouping};
 ghost use Rattle.arguments.specs.declared.name.CommandName.TheVariants as name;
 ghost use Rattle.placing.specs.declared.sum.SumRule.TheVariants.{Bytes};
 
@@ -94,12 +95,13 @@ pub(crate) fn read_keyed_kind(words: &[String]) -> Option<Request>
     }
 }
 
-/// Reads the arguments after `risk`: `--core`, and after it what makes records one group, and the
+/// Reads the arguments after `risk` for a file: `--core`, and after it what makes records one group, and the
 /// arguments that choose a chain.
 pub(crate) fn read_grouping_kind(words: &[String]) -> Option<(Grouping, FileKind)>
     ensures found { IfSome result (λ o.
         IsFileOptions (IsAfterGrouping o.0) (map string_bytes words.now) o.1) }
-    ensures none { IfNone result (HasNoValues Grouped (map string_bytes words.now)) }
+    ensures none { IfNone result ((by : Grouping) (kind : FileKind) →
+        ¬ IsFileOptions (IsAfterGrouping by) (map string_bytes words.now) kind) }
 {
     let (rule, rest) = cut_rule(words);
     match read_after_grouping(rest) {

@@ -162,7 +162,7 @@ Codes    0 done, 2 bad usage, 4 peers.dat is refused, 5 asmap.dat is refused, 7 
 );
 
 pub(crate) const RISK: Page = (
-    "risk source|peer|network|- [--net CHAIN] [--core]",
+    "risk source|peer|network|- [--net CHAIN] [--core|--raw -]",
     "prints which part of the picks from peers.dat falls to each group, at most",
     "\
 Reads    peers.dat; asmap.dat, if it is there; with -, prefixes and AS numbers from
@@ -180,11 +180,15 @@ network  groups them by the network of the peer's address.
 CHAIN    main, test, testnet4, signet or regtest; main if it is left out. In place of
          --net may be --magic and the 8 hexadecimal digits that its files begin with.
 FILE     --peers FILE and --asmap FILE are read in the place of peers.dat and asmap.dat.
+--raw -  reads what raw or getrawaddrman printed, from standard input, in the place of
+         peers.dat; not beside -, --core or --peers. A listing does not say which peers
+         were tried without success: the parts are those of tables with these records
+         and no such tries, and no bound for a node that has tried some.
 --core   takes the checksum of asmap.dat in peers.dat as Bitcoin Core 24 to 30 does.
 Codes    0 done, 2 bad usage, 3 a line has an error, 4 peers.dat is refused,
          5 asmap.dat is refused, 7 the log cannot be read, 8 the output cannot be
          written, 9 the folder failed, 10 the log is too long, 12 out of memory,
-         13 a line is too long, 14 peers.dat is missing.
+         13 a line is too long, 14 peers.dat is missing, 20 the listing is refused.
 ",
 );
 

@@ -8,13 +8,12 @@ use crate::address::read_address;
 use crate::bans::{cut_ban_rule, read_period, read_subnet};
 use crate::commands::{plain_word, read_command};
 use crate::file_kind::{
-    read_file_kind, read_grouping_kind, read_keyed_kind, read_listing_kind, read_opening_kind,
-    read_records,
+    read_file_kind, read_keyed_kind, read_listing_kind, read_opening_kind, read_records,
 };
 use crate::name::{CommandName, NAMES};
 use crate::opener_options::read_opener;
 use crate::options::{first_word, only_word, read_after_anchors};
-use crate::tables_from::{read_picture, read_tables};
+use crate::tables_from::{read_picture, read_risk, read_tables};
 use ban_list::{BanRule, texts_have_one_meaning};
 use gen_load::MAX_LINES;
 use grammar::{Between, Fields, LongBetween, OnePeer, find_keyword, read_fields};
@@ -85,10 +84,7 @@ fn read_after(alloc: Global, name: CommandName, rest: &[String]) -> Option<Reque
         CommandName::Groups => Some(Request::Groups {
             from: read_tables(rest)?,
         }),
-        CommandName::Risk => {
-            let (by, kind) = read_grouping_kind(rest)?;
-            Some(Request::Risk { by, kind })
-        }
+        CommandName::Risk => read_risk(rest),
         CommandName::FromRaw => read_keyed_kind(rest),
         CommandName::Ban => read_period(rest),
         CommandName::Unban => read_subnet(rest),

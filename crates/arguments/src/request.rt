@@ -80,12 +80,12 @@ pub enum Request {
         from: TablesFrom,
     },
     /// `risk source --net CHAIN`, `risk peer` and `risk network`: print which part of the picks
-    /// from the tables of peers.dat, a file of this chain, falls to each group, at most. `risk -`:
-    /// print which part falls to each set of addresses that a line of the log names, and to all of
-    /// them.
+    /// from the tables of peers.dat, a file of this chain, or of a listing, falls to each group, at
+    /// most. `risk -`: print which part of those from peers.dat falls to each set of addresses that
+    /// a line of the log names, and to all of them.
     Risk {
         by: Grouping,
-        kind: FileKind,
+        from: TablesFrom,
     },
     /// `from-raw --key HEX64 --net CHAIN`: read a listing of tables from the log, and save it as
     /// peers.dat, a file of this kind, under this key.

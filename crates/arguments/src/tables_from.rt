@@ -1,10 +1,11 @@
 ghost use Rattle.std.specs.Prelude.{◌≡◌, ℕ, List, true, false, map, string_bytes, IfSome, IfNone};
 ghost use Rattle.arguments.specs.Options.{IsNet, IsRaw, IsTables};
-ghost use Rattle.arguments.specs.Table.{Coloured, HasNoValues, Reads, Tables, name_of, request_values};
+ghost use Rattle.arguments.specs.Table.{Coloured, Grouped, HasNoValues, Reads, Tables, name_of, request_values};
 ghost use Rattle.arguments.specs.declared.name.CommandName.TheVariants as name;
 
 use crate::colours::read_colours;
-use crate::file_kind::{read_colours_kind, read_file_kind};
+use crate::file_kind::{read_colours_kind, read_file_kind, read_grouping_kind};
+use crate::grouping::read_listed_grouping;
 use crate::options::{cut_option, read_net};
 use crate::{FileKind, Request};
 use peers_file::Chain;
@@ -71,6 +72,31 @@ pub(crate) fn read_picture(words: &[String]) -> Option<Request>
     match read_colours_kind(words) {
         Some((colours, kind)) => Some(Request::Picture {
             colours,
+            from: TablesFrom::File { kind },
+        }),
+        None => None,
+    }
+}
+
+/// Reads the arguments after `risk`: `--raw -` or `--core` or none of them, and after it what makes
+/// records one group, and the arguments that choose a chain.
+pub(crate) fn read_risk(words: &[String]) -> Option<Request>
+    ensures found { IfSome result (λ request. (name_of request ≡ name.Risk)
+        × Reads Grouped (map string_bytes words.now) (request_values request)) }
+    ensures none { IfNone result (HasNoValues Grouped (map string_bytes words.now)) }
+{
+    if let Some(rest) = after_raw(words) {
+        return match read_listed_grouping(rest) {
+            Some((by, chain)) => Some(Request::Risk {
+                by,
+                from: TablesFrom::Listing { chain },
+            }),
+            None => None,
+        };
+    }
+    match read_grouping_kind(words) {
+        Some((by, kind)) => Some(Request::Risk {
+            by,
             from: TablesFrom::File { kind },
         }),
         None => None,

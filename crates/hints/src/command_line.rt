@@ -27,17 +27,45 @@ fn is_flag(form: &str, word: &str) -> bool {
 /// The form of `show` for a file of anchors.
 const ANCHORS_FORM: &str = "show --anchors [--net CHAIN]";
 
-/// What is said of `risk` with `--raw`.
-const NO_LISTING: &str = "risk takes no listing: addrman from-raw makes a peers.dat of it";
+/// What is said of `risk -` with `--raw -`.
+const ONE_INPUT: &str = "risk -: not beside --raw -, since standard input has the listing";
 
-/// Says which argument of `risk` is wrong: what makes records one group, or an option after it.
-/// `--core` is before it.
+/// Returns how many of the arguments after `risk` are `--core` and `--raw -`, which are before what
+/// makes records one group.
+fn front_length(words: &[String]) -> usize {
+    let mut is_raw = false;
+    for (i, word) in words.iter().enumerate() {
+        let word = word.as_str();
+        let is_value = is_raw && word == "-";
+        is_raw = word == "--raw";
+        if !is_value && !is_raw && word != "--core" && word != "--raw=-" {
+            return i;
+        }
+    }
+    words.len()
+}
+
+/// Returns `true` if one of the options is `--raw`.
+fn has_raw(words: &[String]) -> bool {
+    for word in words {
+        if word.as_str().starts_with("--raw") {
+            return true;
+        }
+    }
+    false
+}
+
+/// Says which argument of `risk` is wrong: what makes records one group, or an option.
 fn risk_hint(alloc: Global, form: &'static str, words: &[String]) -> Result<String, AllocError> {
-    let rest = match words {
-        [first, rest @ ..] if first.as_str() == "--core" => rest,
-        _ => words,
-    };
-    match rest {
+    let length = front_length(words);
+    let front = words.get(..length).unwrap_or(words);
+    if let Some(text) = wrong_option(alloc, form, front)? {
+        return Ok(text);
+    }
+    match words.get(length..).unwrap_or(&[]) {
+        [first, ..] if first.as_str() == "-" && has_raw(front) => {
+            String::from_str(alloc, ONE_INPUT)
+        }
         [first, options @ ..] if GROUPINGS.contains(&first.as_str()) => {
             explain_options(alloc, form, options)
         }
@@ -127,7 +155,7 @@ static RARE_OPTIONS: [RareOption; 10] = [
     },
     RareOption {
         flag: "--raw",
-        commands: "picture, info and groups",
+        commands: "picture, info, groups and risk",
     },
     RareOption {
         flag: "--by",
@@ -196,9 +224,6 @@ pub fn usage_hint(alloc: Global, words: &[String]) -> Result<String, AllocError>
     }
     if let Some(form) = Reader::Arguments.find_form(command.as_bytes()) {
         if let Some(option) = rare_option(form, rest) {
-            if option.flag == "--raw" && form.starts_with("risk ") {
-                return String::from_str(alloc, NO_LISTING);
-            }
             return format!(in alloc;
                 "{} is no option of {}, but of {}",
                 option.flag,

@@ -8,7 +8,7 @@ static COMMANDS: [&str; 24] = [
     "raw [--net CHAIN] [--core]",
     "info [--net CHAIN] [--core|--raw -]",
     "groups [--net CHAIN] [--core|--raw -]",
-    "risk source|peer|network|- [--net CHAIN] [--core]",
+    "risk source|peer|network|- [--net CHAIN] [--core|--raw -]",
     "from-raw --key HEX64 [--net CHAIN] [--core]",
     "compile",
     "decompile",

@@ -1,5 +1,7 @@
 pub mod MaskGaps
+pub mod Slots
 pub mod KindsOf
+pub mod OfStates
 pub mod BoundsOf
 pub mod Lasting
 pub mod LeadsOf

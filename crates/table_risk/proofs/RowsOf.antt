@@ -1,5 +1,5 @@
 -- The sides of both tables give the rows.
-use Rattle.std.proofs.Common.{◌≡◌, ℕ, suc, ◌+◌, ◌*◌, ◌^◌, ◌≤◌, ◌<◌, min, Bool, true, false, cond, not, ◌||◌, ◌==◌, List, [], ◌∷◌, ◌++◌, fold, get_or, length, map, take, refl, sym, ap, subst, ◌∙◌, arith, if◌then◌else◌}
+use Rattle.std.proofs.Common.{◌≡◌, ℕ, suc, ◌+◌, ◌*◌, ◌^◌, ◌≤◌, ◌<◌, min, Bool, true, false, cond, not, ◌||◌, ◌==◌, List, [], ◌∷◌, ◌++◌, fold, get_or, length, map, take, refl, sym, ap, subst, ◌∙◌, arith, true≢false, if◌then◌else◌}
 use Rattle.std.specs.Prelude.{bytes_eq}
 use Rattle.std.specs.List.{position_or_len}
 use Rattle.std.proofs.lemmas.List.{length-take, take_more}
@@ -9,47 +9,50 @@ use Rattle.net_addr.specs.NetSet.{all}
 use Rattle.peer_rec.specs.declared.rec.Rec.{Rec}
 use Rattle.placing.specs.Places.{Places}
 use Rattle.risk_laws.specs.Classes.{chances}
-use Rattle.risk_parts.specs.Parts.{millionths, wanted_in}
+use Rattle.risk_parts.specs.Parts.{millionths}
 use Rattle.risk_sum.specs.Kinds.{AreKinds, most_by, starts_of}
 use Rattle.table_groups.proofs.Values.{after_visit, groups-are, values-are}
 use Rattle.table_groups.specs.Tally.{by_bytes, groups_of, noted, once, tally_of, value_in}
-use Rattle.table_machine.specs.Picks.{first_factor, wanted_new, wanted_tried}
-use Rattle.table_machine.specs.Sound.{IsSound}
-use Rattle.table_machine.specs.State.{State}
-use Rattle.table_risk.specs.Grouping.{group_by, is_in}
-use Rattle.table_risk.specs.Inside.{Counts, FitsSide, Sides, class_by, classes_share, firsts_by, index_visits, kind_in, lower, row_in, side_by, side_share}
-use Rattle.table_risk.specs.Rows.{first_in, row_by, rows_of, search, share_in}
+use Rattle.table_groups.specs.View.{View, wanted_new, wanted_tried}
+use Rattle.table_machine.specs.Picks.{first_factor}
+use Rattle.table_risk.specs.Grouping.{group_by}
+use Rattle.table_risk.specs.Inside.{Counts, FitsSide, Sides, class_by, classes_share, firsts_by, index_visits, is_none, kind_in, lower, row_in, side_by, side_share}
+use Rattle.table_risk.specs.Occupants.{occupants_of}
+use Rattle.table_risk.specs.Rows.{first_in, has_none, row_by, rows_of, search, share_in, wanted_in}
 use Rattle.table_risk.specs.Shares.{share_of}
 use Rattle.table_risk.specs.declared.by.By.{By}
 use Rattle.table_risk.specs.declared.classes.Search.{Search}
 use Rattle.table_risk.specs.declared.rows.Row.{Row}
-use Rattle.risk_parts.proofs.BoundsOf.{kinds_there, not_none}
-use Rattle.table_risk.proofs.KindsOf.{kinds_are}
+use Rattle.table_risk.proofs.KindsOf.{are_kinds, kinds_are}
 
-fits : (st : State) (what : Search) (g : List ℕ) → IsSound st → FitsSide (side_by st what) g
-fits st what g sound = record {
-  few = let is : length (map (class_by st what) chances) ≡ 18 = refl in omega (arith, is);
-  kinds = λ there. subst AreKinds (sym (kinds_are st what g))
-      (kinds_there st what.in_new what.now (is_in what.by st.places g) sound (not_none (wanted_in st what.in_new) there));
+or_false : (a b : Bool) → (a || b) ≡ false → b ≡ false
+or_false true b is = absurd (true≢false is)
+or_false false b is = is
+
+fits : (view : View) (what : Search) (g : List ℕ) → FitsSide (side_by view what) g
+fits view what g = record {
+  few = let is : length (map (class_by view.places what (occupants_of view what.in_new)) chances) ≡ 18 = refl in omega (arith, is);
+  kinds = λ some. subst AreKinds (sym (kinds_are view what g))
+      (are_kinds view what g (or_false (wanted_in view what.in_new == 0) (length (occupants_of view what.in_new) == 0) some));
 }
 
-pub all_fit : (st : State) (what : Search) → IsSound st → (side : Sides) → side ≡ side_by st what → (g : List ℕ) → FitsSide side g
-all_fit st what sound side is g = subst (λ s. FitsSide s g) (sym is) (fits st what g sound)
+pub all_fit : (view : View) (what : Search) (side : Sides) → side ≡ side_by view what → (g : List ℕ) → FitsSide side g
+all_fit view what side is g = subst (λ s. FitsSide s g) (sym is) (fits view what g)
 
-pub share_same : (st : State) (what : Search) (g : List ℕ) → side_share (side_by st what) g ≡ share_in st what g
+pub share_same : (view : View) (what : Search) (g : List ℕ) → side_share (side_by view what) g ≡ share_in view what g
 unfolding share_of classes_share
-share_same st what g =
-    λ i. if wanted_in st what.in_new == 0 then 0
-    else min (most_by (kinds_are st what g i) (starts_of (kinds_are st what g i) * 2 ^ 30) (2 ^ 64) 48 first_factor) (2 ^ 64)
+share_same view what g =
+    λ i. if has_none view what.in_new then 0
+    else min (most_by (kinds_are view what g i) (starts_of (kinds_are view what g i) * 2 ^ 30) (2 ^ 64) 48 first_factor) (2 ^ 64)
 
-row_same : (st : State) (by : By) (now : ℕ) (g : List ℕ) (first : ℕ) → row_in (side_by st (search true by now)) (side_by st (search false by now)) g first ≡ row_by st by now g first
-row_same st by now g first =
-    let new = share_same st (search true by now) g in
-    let tried = share_same st (search false by now) g in
+row_same : (view : View) (by : By) (now : ℕ) (g : List ℕ) (first : ℕ) → row_in (side_by view (search true by now)) (side_by view (search false by now)) g first ≡ row_by view by now g first
+row_same view by now g first =
+    let new = share_same view (search true by now) g in
+    let tried = share_same view (search false by now) g in
     λ i. record {
       group = record { items = g };
       first = first;
-      picks = millionths (new i + tried i) (if wanted_new st all == 0 || wanted_tried st all == 0 then 2 ^ 64 else 2 ^ 65);
+      picks = millionths (new i + tried i) (if wanted_new view all == 0 || wanted_tried view all == 0 then 2 ^ 64 else 2 ^ 65);
       new = millionths (new i) (2 ^ 64);
       tried = millionths (tried i) (2 ^ 64);
     }
@@ -113,27 +116,27 @@ keys_bytes : (h : List ℕ → Row) (es : List (ArrayVec ℕ × ℕ)) → map (�
 keys_bytes h [] = refl
 keys_bytes h (e ∷ es) = ap (λ (rows : List Row). h e.0.items ∷ rows) (keys_bytes h es)
 
-pub rows_are : (st : State) (by : By) (now count : ℕ) (new tried : Sides) → new ≡ side_by st (search true by now) → tried ≡ side_by st (search false by now) → count ≡ length st.records
-    → (es : List (ArrayVec ℕ × ℕ)) → by_bytes es ≡ firsts_by st.places by count st.records → (rows : List Row)
-    → rows ≡ map (λ k. row_in new tried k.items (value_in count (by_bytes es) k.items)) (map (λ e. e.0) es) → rows ≡ rows_of st by now
+pub rows_are : (view : View) (by : By) (now count : ℕ) (new tried : Sides) → new ≡ side_by view (search true by now) → tried ≡ side_by view (search false by now) → count ≡ length view.records
+    → (es : List (ArrayVec ℕ × ℕ)) → by_bytes es ≡ firsts_by view.places by count view.records → (rows : List Row)
+    → rows ≡ map (λ k. row_in new tried k.items (value_in count (by_bytes es) k.items)) (map (λ e. e.0) es) → rows ≡ rows_of view by now
 unfolding rows_of
-rows_are st by now count new tried one two all es are rows is =
-    let f : Rec → List ℕ = group_by by st.places in
-    let vs : List (List ℕ × ℕ) = index_visits f 0 st.records in
+rows_are view by now count new tried one two all es are rows is =
+    let f : Rec → List ℕ = group_by by view.places in
+    let vs : List (List ℕ × ℕ) = index_visits f 0 view.records in
     is ∙ keys_bytes (λ g. row_in new tried g (value_in count (by_bytes es) g)) es
     ∙ (λ i. map (λ g. row_in (one i) (two i) g (value_in count (are i) g)) (groups_of (are i)))
-    ∙ (λ i. map (λ g. row_same st by now g (value_in (all i) (tally_of (all i) lower vs) g) i) (groups_of (tally_of (all i) lower vs)))
-    ∙ (λ i. map (λ g. row_by st by now g (first_is f st.records g i)) (groups-are (length st.records) lower vs i))
-    ∙ (λ i. map (λ g. row_by st by now g (first_in st by g)) (once (visit_groups f st.records 0 i)))
+    ∙ (λ i. map (λ g. row_same view by now g (value_in (all i) (tally_of (all i) lower vs) g) i) (groups_of (tally_of (all i) lower vs)))
+    ∙ (λ i. map (λ g. row_by view by now g (first_is f view.records g i)) (groups-are (length view.records) lower vs i))
+    ∙ (λ i. map (λ g. row_by view by now g (first_in view by g)) (once (visit_groups f view.records 0 i)))
 
 -- ---- one side
 
-pub below_whole : (side : Sides) (g : List ℕ) (share : ℕ) → (side.wanted == 0) ≡ false → share ≡ classes_share side.classes g → share < 2 ^ 64 → share ≡ side_share side g
+pub below_whole : (side : Sides) (g : List ℕ) (share : ℕ) → is_none side ≡ false → share ≡ classes_share side.classes g → share < 2 ^ 64 → share ≡ side_share side g
 below_whole side g share there is low =
     let least : share ≡ min share (2 ^ 64) = omega (arith, low) in
     least ∙ ap (λ n. min n (2 ^ 64)) is ∙ (λ i. if sym there i then 0 else min (classes_share side.classes g) (2 ^ 64))
 
-pub whole : (side : Sides) (g : List ℕ) (share : ℕ) → (side.wanted == 0) ≡ false → share ≡ classes_share side.classes g → 2 ^ 64 ≤ share → 2 ^ 64 ≡ side_share side g
+pub whole : (side : Sides) (g : List ℕ) (share : ℕ) → is_none side ≡ false → share ≡ classes_share side.classes g → 2 ^ 64 ≤ share → 2 ^ 64 ≡ side_share side g
 whole side g share there is high =
     let least : 2 ^ 64 ≡ min share (2 ^ 64) = omega (arith, high) in
     least ∙ ap (λ n. min n (2 ^ 64)) is ∙ (λ i. if sym there i then 0 else min (classes_share side.classes g) (2 ^ 64))

@@ -19,10 +19,11 @@ use Rattle.risk_tries.specs.TenBound.{group_share, ten_bound, whole_of}
 use Rattle.risk_tries.specs.Tries.{AreGroupsOf}
 use Rattle.table_groups.specs.Tally.{by_bytes, groups_of, noted, once, with_group}
 use Rattle.table_groups.proofs.Values.{groups-are}
+use Rattle.table_groups.specs.View.{view_of}
 use Rattle.table_machine.specs.Sound.{IsSound}
 use Rattle.table_machine.specs.State.{State}
 use Rattle.table_machine.proofs.Lists.{Contains-cases, Contains-filter, Contains-head, Contains-map, Contains-tail, none_in_nil}
-use Rattle.table_risk.specs.Inside.{Sides, both_shares, classes_share, noted_among, part_by, side_by, side_share, whole_in}
+use Rattle.table_risk.specs.Inside.{Sides, both_shares, classes_share, is_none, noted_among, part_by, side_by, side_share, whole_in}
 use Rattle.table_risk.specs.Rows.{search}
 use Rattle.table_risk.specs.Tens.{groups_among, ten_part}
 use Rattle.table_risk.specs.declared.by.By.TheVariants as by
@@ -73,7 +74,7 @@ keys_are (e ∷ es) = ap (λ (gs : List (List ℕ)). e.0.items ∷ gs) (keys_are
 -- ---- the shares
 
 share_few : (side : Sides) (g : List ℕ) → side_share side g ≤ 2 ^ 64
-share_few side g = by (side.wanted == 0) (classes_share side.classes g)
+share_few side g = by (is_none side) (classes_share side.classes g)
   where
     by : (b : Bool) (n : ℕ) → (if b then 0 else min n (2 ^ 64)) ≤ 2 ^ 64
     by true n = omega arith
@@ -100,14 +101,14 @@ part_is new tried groups shares whole bound part are all is made =
     made ∙ ap (λ n. millionths n (2 ^ 62)) is ∙ (λ i. millionths (ten_bound ((are ∙ map_map (both_shares new tried) groups) i) (all i) (2 ^ 62)) (2 ^ 62))
 
 module _ (st : State) (now : ℕ) (sets : List AddrSet) (sound : IsSound st) where
-  shares_are : (g : List ℕ) → both_shares (side_by st (search true by.Peer now)) (side_by st (search false by.Peer now)) g ≡ group_share st now g
+  shares_are : (g : List ℕ) → both_shares (side_by (view_of st) (search true by.Peer now)) (side_by (view_of st) (search false by.Peer now)) g ≡ group_share st now g
   shares_are g =
       let own : Peer → Bool = λ peer. bytes_eq g (group st.places peer.addr) in
-      let same = λ (in_new : Bool). rows.share_same st (search in_new by.Peer now) g ∙ sym (bounds.share_same st by.Peer now g own sound (λ r has. refl) in_new) in
+      let same = λ (in_new : Bool). rows.share_same (view_of st) (search in_new by.Peer now) g ∙ sym (bounds.share_same st by.Peer now g own sound (λ r has. refl) in_new) in
       λ i. same true i + same false i
 
   -- the part by the sides of both tables
-  pub part_same : (new tried : Sides) (es : List (ArrayVec ℕ × ⊤)) (part : ℕ) → new ≡ side_by st (search true by.Peer now) → tried ≡ side_by st (search false by.Peer now)
+  pub part_same : (new tried : Sides) (es : List (ArrayVec ℕ × ⊤)) (part : ℕ) → new ≡ side_by (view_of st) (search true by.Peer now) → tried ≡ side_by (view_of st) (search false by.Peer now)
       → groups_of (by_bytes es) ≡ groups_among st sets → part ≡ part_by new tried (map (λ (g : ArrayVec ℕ). g.items) (map (λ (e : ArrayVec ℕ × ⊤). e.0) es))
       → part ≡ ten_part st now sets
   part_same new tried es part one two are made =

@@ -4,24 +4,25 @@ use Rattle.std.specs.Int.{bit_at}
 use Rattle.std.specs.List.{flat_map}
 use Rattle.indexmap.specs.IndexMap.{insert_entry}
 use Rattle.std.specs.Prelude.{ℕ, ◌*◌, ◌^◌, ◌==◌, Bool, false, List, [], ◌∷◌, length, map, ◌≡◌, ◌+◌, ◌≤◌, ◌||◌, min, sum_by, bytes_eq, ⊤, if◌then◌else◌}
-use Rattle.net_addr.specs.NetSet.{all}
 use Rattle.peer_rec.specs.Rec.{chance}
 use Rattle.peer_rec.specs.declared.rec.Rec.{Rec}
 use Rattle.risk_laws.specs.Classes.{chances}
 use Rattle.risk_sum.specs.Kinds.{most_by, starts_of, AreKinds}
 use Rattle.risk_sum.specs.declared.kinds.Kind.{Kind}
-use Rattle.table_laws.specs.Odds.{leading_starts}
 use Rattle.table_machine.specs.Picks.{first_factor}
-use Rattle.table_machine.specs.State.{State}
+use Rattle.table_groups.specs.View.{View}
 use Rattle.placing.specs.Places.{Places, group}
 use Rattle.table_groups.specs.Tally.{by_bytes, tally_of, value_in}
 use Rattle.table_risk.specs.Grouping.{group_by}
+use Rattle.table_risk.specs.Occupants.{occupants_of}
+use Rattle.table_risk.specs.Rows.{wanted_in}
 use Rattle.table_risk.specs.declared.by.By.{By}
 use Rattle.table_risk.specs.declared.classes.Class.{Class}
 use Rattle.table_risk.specs.declared.classes.Search.{Search}
+use Rattle.table_risk.specs.declared.occupants.Occupant.{Occupant}
 use Rattle.table_risk.specs.declared.rows.Row.{Row}
 use Rattle.table_risk.specs.declared.rows.Side.{Side}
-use Rattle.risk_parts.specs.Parts.{millionths, wanted_in}
+use Rattle.risk_parts.specs.Parts.{millionths}
 use Rattle.risk_parts.specs.Sets.{is_among}
 use Rattle.risk_parts.specs.declared.addr_set.AddrSet.{AddrSet}
 use Rattle.risk_parts.specs.declared.parts.TheConstants.{AHEAD}
@@ -52,13 +53,13 @@ abbrev pub plus : ℕ → ℕ → ℕ
 plus n starts = n + starts
 
 -- the group of a record of the chance, with how many starts lead to it
-abbrev pub visits_for : State → Search → ℕ → Rec → List (List ℕ × ℕ)
-visits_for st what likely r =
-    if chance r what.now == likely
-    then (group_by what.by st.places r, leading_starts st what.in_new all r) ∷ [] else []
+abbrev pub visits_for : Places → Search → ℕ → Occupant → List (List ℕ × ℕ)
+visits_for places what likely o =
+    if chance o.rec what.now == likely then (group_by what.by places o.rec, o.starts) ∷ []
+    else []
 
-unfoldable pub class_visits : State → Search → ℕ → List (List ℕ × ℕ)
-class_visits st what likely = flat_map (visits_for st what likely) st.records
+unfoldable pub class_visits : Places → Search → List Occupant → ℕ → List (List ℕ × ℕ)
+class_visits places what occupants likely = flat_map (visits_for places what likely) occupants
 
 -- what a class says
 pub record Counts : Type 0 where
@@ -70,13 +71,13 @@ abbrev pub class_value : {H G : Type 0} → Class H G → Counts
 class_value c = record { chance = c.chance; all = c.all; groups = by_bytes c.groups.entries }
 
 -- how many starts some visits have
-abbrev pub starts_in : List (List ℕ × ℕ) → ℕ
-starts_in visits = sum_by (λ v. v.1) visits
+abbrev pub all_starts : List (List ℕ × ℕ) → ℕ
+all_starts visits = sum_by (λ v. v.1) visits
 
-abbrev pub class_by : State → Search → ℕ → Counts
-class_by st what likely =
-    let visits = class_visits st what likely in
-    record { chance = likely; all = starts_in visits; groups = tally_of 0 plus visits }
+abbrev pub class_by : Places → Search → List Occupant → ℕ → Counts
+class_by places what occupants likely =
+    let visits = class_visits places what occupants likely in
+    record { chance = likely; all = all_starts visits; groups = tally_of 0 plus visits }
 
 abbrev pub kind_in : List ℕ → Counts → Kind
 kind_in g c = record { chance = c.chance; all = c.all; theirs = value_in 0 c.groups g }
@@ -85,18 +86,32 @@ kind_in g c = record { chance = c.chance; all = c.all; theirs = value_in 0 c.gro
 pub record Sides : Type 0 where
   pub classes : List Counts
   pub wanted : ℕ
+  pub slots : ℕ
 
 abbrev pub side_value : {H G : Type 0} → Side H G → Sides
-side_value s = record { classes = map class_value s.classes.items; wanted = s.wanted }
+side_value s = record {
+  classes = map class_value s.classes.items;
+  wanted = s.wanted;
+  slots = s.slots;
+}
 
-abbrev pub side_by : State → Search → Sides
-side_by st what =
-    record { classes = map (class_by st what) chances; wanted = wanted_in st what.in_new }
+abbrev pub side_by : View → Search → Sides
+side_by view what =
+    let occupants = occupants_of view what.in_new in
+    record {
+      classes = map (class_by view.places what occupants) chances;
+      wanted = wanted_in view what.in_new;
+      slots = length occupants;
+    }
+
+-- the side's table has no record, or none in a slot
+abbrev pub is_none : Sides → Bool
+is_none side = side.wanted == 0 || side.slots == 0
 
 -- with records, a side and a group have kinds
 pub record FitsSide (side : Sides) (g : List ℕ) : Type 0 where
   pub few : length side.classes ≤ 18
-  pub kinds : (side.wanted == 0) ≡ false → AreKinds (map (kind_in g) side.classes)
+  pub kinds : is_none side ≡ false → AreKinds (map (kind_in g) side.classes)
 
 unfoldable pub classes_share : List Counts → List ℕ → ℕ
 classes_share classes g =
@@ -105,7 +120,7 @@ classes_share classes g =
 
 abbrev pub side_share : Sides → List ℕ → ℕ
 side_share side g =
-    if side.wanted == 0 then 0 else min (classes_share side.classes g) (2 ^ 64)
+    if is_none side then 0 else min (classes_share side.classes g) (2 ^ 64)
 
 -- how many picks the shares of a group are parts of
 abbrev pub whole_in : Sides → Sides → ℕ

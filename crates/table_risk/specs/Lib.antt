@@ -1,4 +1,5 @@
 pub mod Grouping
+pub mod Occupants
 pub mod Shares
 pub mod Rows
 pub mod Texts

@@ -1,12 +1,12 @@
 -- The text of which part of the picks falls to the peers of some sets.
-use Rattle.std.specs.Prelude.{ℕ, List, [], ◌∷◌, ◌++◌, true, false, codes, count_by, not}
+use Rattle.std.specs.Prelude.{ℕ, List, [], ◌∷◌, ◌++◌, codes}
 use Rattle.std.specs.List.{flat_map}
-use Rattle.peer_rec.specs.Rec.{is_tried}
+use Rattle.table_groups.specs.View.{view_of}
 use Rattle.table_machine.specs.State.{State}
 use Rattle.risk_parts.specs.Parts.{parts_for}
 use Rattle.risk_parts.specs.Sets.{is_among, set_text}
 use Rattle.table_risk.specs.Tens.{ten_part}
-use Rattle.table_risk.specs.Texts.{heading, part_text, parts_text, used_buckets}
+use Rattle.table_risk.specs.Texts.{heading_of, part_text, parts_text}
 use Rattle.risk_parts.specs.declared.addr_set.AddrSet.{AddrSet}
 use Rattle.risk_parts.specs.declared.parts.Parts.{Parts}
 
@@ -28,12 +28,6 @@ abbrev pub lines_at : State → ℕ → List AddrSet → List ℕ
 lines_at st now sets =
     flat_map (line_at st now) sets ++ union_line (parts_for st now (is_among st.places sets))
 
--- the first line: how many records and used buckets the tables have
-abbrev pub heading_of : State → List ℕ
-heading_of st =
-    heading (count_by (λ r. not (is_tried r)) st.records) (count_by is_tried st.records)
-    (used_buckets st true) (used_buckets st false)
-
 -- the last line, by the part that opens all outbound connections to peers of the sets
 unfoldable pub ten_line : ℕ → List ℕ
 ten_line part = part_text (codes "all ten at most ") part ++ codes "\n"
@@ -41,4 +35,4 @@ ten_line part = part_text (codes "all ten at most ") part ++ codes "\n"
 -- the text at a time
 abbrev pub sets_text : State → ℕ → List AddrSet → List ℕ
 sets_text st now sets =
-    heading_of st ++ (lines_at st now sets ++ ten_line (ten_part st now sets))
+    heading_of (view_of st) ++ (lines_at st now sets ++ ten_line (ten_part st now sets))

@@ -1,17 +1,16 @@
 -- The text of which part of the picks falls to each group.
-use Rattle.std.specs.Prelude.{◌≡◌, ℕ, ◌/◌, ◌%◌, List, [], ◌++◌, Bool, true, false, Option, Some, None, codes, count_by, decimal, not, slice_get}
+use Rattle.std.specs.Prelude.{◌≡◌, ℕ, ◌/◌, ◌%◌, List, [], ◌++◌, Bool, true, false, Option, Some, None, codes, count_by, decimal, is_some, not, slice_get}
 use Rattle.std.specs.List.{flat_map, range_with_len}
 use Rattle.std.specs.List.Sorted.{IsPermutation, IsSortedBy}
-use Rattle.net_addr.specs.NetSet.{all}
 use Rattle.net_addr.specs.declared.net.Net.{Net}
 use Rattle.net_addr.specs.declared.net.Net.TheVariants.{Unroutable, Ipv4, Ipv6, Onion, I2p, Cjdns, Internal}
 use Rattle.peer_rec.specs.Rec.{is_tried, network}
 use Rattle.peer_rec.specs.declared.rec.Rec.{Rec}
 use Rattle.table_groups.specs.Names.{name_of}
+use Rattle.table_groups.specs.Slots.{some_in}
+use Rattle.table_groups.specs.View.{View, occupant_at}
 use Rattle.placing.specs.Places.{Places}
-use Rattle.table_laws.specs.Searches.{has_candidate}
 use Rattle.table_machine.specs.Picks.{bucket_count}
-use Rattle.table_machine.specs.State.{State}
 use Rattle.table_risk.specs.Rows.{comes_before, rows_of}
 use Rattle.table_risk.specs.declared.by.By.{By}
 use Rattle.table_risk.specs.declared.by.By.TheVariants.{Source, Peer, Network}
@@ -65,9 +64,10 @@ row_text places by recs row =
     ++ (name_in by places (slice_get recs row.first) ++ parts_text row.picks row.new row.tried)
 
 -- how many buckets of a table have a record
-unfoldable pub used_buckets : State → Bool → ℕ
-used_buckets st in_new =
-    count_by (has_candidate st in_new all) (range_with_len 0 (bucket_count in_new))
+unfoldable pub used_buckets : View → Bool → ℕ
+used_buckets view in_new =
+    count_by (λ bucket. some_in is_some (occupant_at view in_new bucket))
+    (range_with_len 0 (bucket_count in_new))
 
 -- a label, and a number of each table
 unfoldable pub numbers_text : List ℕ → ℕ → ℕ → List ℕ
@@ -80,12 +80,16 @@ heading new tried new_buckets tried_buckets =
     numbers_text (codes "peers") new tried
     ++ (numbers_text (codes " buckets") new_buckets tried_buckets ++ codes "\n")
 
+-- the first line: how many records and used buckets the tables have
+abbrev pub heading_of : View → List ℕ
+heading_of view =
+    heading (count_by (λ r. not (is_tried r)) view.records) (count_by is_tried view.records)
+    (used_buckets view true) (used_buckets view false)
+
 -- The text at a time: how many records and used buckets the tables have, and the rows of all
 -- groups, those with more picks first, and of two with as many the one with the lower bytes.
-pub record IsRiskText (st : State) (by : By) (now : ℕ) (text : List ℕ) : Type 0 where
+pub record IsRiskText (view : View) (by : By) (now : ℕ) (text : List ℕ) : Type 0 where
   pub rows : List Row
-  pub all : IsPermutation (rows_of st by now) rows
+  pub all : IsPermutation (rows_of view by now) rows
   pub order : IsSortedBy comes_before rows
-  pub is : text ≡ heading (count_by (λ r. not (is_tried r)) st.records)
-      (count_by is_tried st.records) (used_buckets st true) (used_buckets st false)
-      ++ flat_map (row_text st.places by st.records) rows
+  pub is : text ≡ heading_of view ++ flat_map (row_text view.places by view.records) rows

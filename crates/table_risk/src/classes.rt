@@ -1,24 +1,20 @@
-ghost use Rattle.std.specs.Prelude.{◌≡◌, ◌≤◌, ◌<◌, ◌+◌, ◌^◌, ℕ, List, All, IfOk, OnOk, length, map};
-ghost use Rattle.peer_rec.specs.Rec.{buckets_of};
+ghost use Rattle.std.specs.Prelude.{◌≡◌, ◌≤◌, ◌<◌, ◌+◌, ◌^◌, ℕ, List, IfOk, OnOk, length, map};
 ghost use Rattle.risk_laws.specs.Classes.{chances};
 ghost use Rattle.table_groups.specs.Tally.{by_bytes, noted, value_in};
-ghost use Rattle.table_machine.specs.Sound.{IsSound};
-ghost use Rattle.slot_grid.specs.declared.sizes.TheConstants.{NEW_BUCKETS, NEW_SLOTS};
-ghost use Rattle.table_risk.specs.Inside.{class_by, class_value, class_visits, kind_in, plus, starts_in};
+ghost use Rattle.slot_grid.specs.declared.sizes.TheConstants.{NEW_SLOTS};
+ghost use Rattle.table_risk.specs.Inside.{all_starts, class_by, class_value, class_visits, kind_in, plus};
+ghost use Rattle.table_risk.specs.Occupants.{starts_in};
 
-use crate::starts::starts_of;
+use crate::occupants::Occupant;
 use crate::{By, Memory};
 use arrayvec::ArrayVec;
 use indexmap::IndexMap;
-use peer_rec::Rec;
+use placing::Placer;
 use risk_parts::CHANCES;
 use risk_sum::Kind;
 use std::alloc::{AllocError, Global};
 use std::hash::BuildHasher;
-use std::sync::ledger::Ledger;
-use steps::Steps;
 use table_groups::{Group, Lent, Tally, put_value, value_of};
-use tables::Tables;
 
 /// What is asked about one table.
 #[derive(Clone, Copy)]
@@ -54,29 +50,28 @@ fn add_starts<H: BuildHasher>(
     put_value(tally, group, sum)
 }
 
-/// Returns how many starts of the table lead to records of the chance.
+/// Returns how many of the starts lead to records of the chance.
 #[tactic(auto, unfolding(crate::specs::Inside::class_visits))]
-fn class_of<'a, H: BuildHasher, G: BuildHasher, L: Ledger>(
+fn class_of<'a, G: BuildHasher>(
     alloc: Global,
     hasher: &'a G,
-    tables: &Tables<'_, H>,
-    recs: &[Rec],
+    placer: &Placer<'_>,
+    occupants: &[Occupant],
     what: Search,
     chance: u32,
-    steps: &mut Steps<L>,
 ) -> Result<Class<'a, G>, Memory>
-    requires recs { recs.now ≡ tables.now.records }
-    requires buckets { All (λ r. All (λ b. b < NEW_BUCKETS) (buckets_of r)) recs.now }
-    requires few { starts_in (class_visits tables.now what chance) ≤ NEW_SLOTS }
-    ensures { IfOk result (λ class. class_value class ≡ class_by tables.now what chance) }
+    requires { all_starts (class_visits placer.now what occupants.now chance) ≤ NEW_SLOTS }
+    ensures { IfOk result (λ class.
+        class_value class ≡ class_by placer.now what occupants.now chance) }
 {
     let mut groups = IndexMap::with_hasher(alloc, Lent::of(hasher));
     let mut all = 0;
-    for rec in recs {
+    for occupant in occupants {
+        let rec = &occupant.rec;
         if rec.chance(what.now) == u64::from(chance) {
-            let starts = starts_of(tables, what.in_new, rec, steps);
+            let starts = occupant.starts;
             all += starts;
-            add_starts(&mut groups, what.by.group(tables.placer(), rec), starts)?;
+            add_starts(&mut groups, what.by.group(placer, rec), starts)?;
         }
     }
     Ok(Class {
@@ -86,23 +81,21 @@ fn class_of<'a, H: BuildHasher, G: BuildHasher, L: Ledger>(
     })
 }
 
-/// Returns how many starts of the table lead to records of each chance.
-pub(crate) fn classes_of<'a, H: BuildHasher, G: BuildHasher, L: Ledger>(
+/// Returns how many of the starts lead to records of each chance.
+pub(crate) fn classes_of<'a, G: BuildHasher>(
     alloc: Global,
     hasher: &'a G,
-    tables: &Tables<'_, H>,
-    recs: &[Rec],
+    placer: &Placer<'_>,
+    occupants: &[Occupant],
     what: Search,
-    steps: &mut Steps<L>,
 ) -> Result<Vec<Class<'a, G>>, Memory>
-    requires recs { recs.now ≡ tables.now.records }
-    requires sound { IsSound tables.now }
+    requires { starts_in occupants.now ≤ NEW_SLOTS }
     ensures { IfOk result (λ classes. map class_value classes.items
-        ≡ map (class_by tables.now what) chances) }
+        ≡ map (class_by placer.now what occupants.now) chances) }
 {
     let mut classes = Vec::new(alloc);
     for chance in &CHANCES {
-        classes.push(class_of(alloc, hasher, tables, recs, what, *chance, steps)?)?;
+        classes.push(class_of(alloc, hasher, placer, occupants, what, *chance)?)?;
     }
     Ok(classes)
 }

@@ -6,6 +6,7 @@ ghost use Rattle.risk_parts.specs.Parts.{HasNoTries};
 ghost use Rattle.risk_parts.specs.Sets.{is_among};
 ghost use Rattle.risk_parts.specs.declared.addr_set.AddrSet.{AddrSet};
 ghost use Rattle.risk_tries.specs.Tries.{all_theirs};
+ghost use Rattle.table_groups.specs.View.{view_of};
 ghost use Rattle.table_machine.specs.Picks.{first_factor};
 ghost use Rattle.table_machine.specs.Sound.{IsSound};
 ghost use Rattle.table_machine.specs.State.{State};
@@ -24,17 +25,18 @@ pub fn rows_are_bounds()
     ensures picks { (st : State) (by : By) (g : List ℕ) (now first n : ℕ) (theirs : Peer → Bool) →
         IsSound st → AreOfGroup st by g theirs →
         selecting_lists st false all now theirs n * 10 ^ 6
-        ≤ (2 ^ 64) ^ n * (row_by st by now g first).picks }
+        ≤ (2 ^ 64) ^ n * (row_by (view_of st) by now g first).picks }
     ensures new { (st : State) (by : By) (g : List ℕ) (now first n : ℕ) (theirs : Peer → Bool) →
         IsSound st → AreOfGroup st by g theirs →
         selecting_lists st true all now theirs n * 10 ^ 6
-        ≤ (2 ^ 64) ^ n * (row_by st by now g first).new }
+        ≤ (2 ^ 64) ^ n * (row_by (view_of st) by now g first).new }
     ensures tried { (st : State) (by : By) (g : List ℕ) (now first n : ℕ) (theirs : Peer → Bool) →
         IsSound st → AreOfGroup st by g theirs →
         searching_lists st false all now theirs first_factor n * 10 ^ 6
-        ≤ (2 ^ 64) ^ n * (row_by st by now g first).tried }
+        ≤ (2 ^ 64) ^ n * (row_by (view_of st) by now g first).tried }
     ensures later { (st : State) (by : By) (now later : ℕ) (text : List ℕ) → HasNoTries st →
-        600 ≤ now → 600 ≤ later → IsRiskText st by now text → IsRiskText st by later text }
+        600 ≤ now → 600 ≤ later → IsRiskText (view_of st) by now text →
+        IsRiskText (view_of st) by later text }
 {}
 
 /// Of the lists of m tries, each of n random words, for every m and n, at most the part that the

@@ -9,6 +9,7 @@ mod firsts;
 mod gaps;
 mod law;
 mod leads;
+mod occupants;
 mod parts;
 mod rows;
 mod set_text;

@@ -1,14 +1,13 @@
 ghost use Rattle.std.specs.Prelude.{◌≡◌, ◌≤◌, ◌<◌, ◌^◌, ℕ, List, IfOk, map};
 ghost use Rattle.indexmap.specs.IndexMap.{keys};
 ghost use Rattle.std.specs.List.Sorted.{IsPermutation, IsSortedBy};
-ghost use Rattle.risk_parts.specs.Parts.{wanted_in};
-ghost use Rattle.table_machine.specs.Sound.{IsSound};
-ghost use Rattle.table_risk.specs.Inside.{FitsSide, row_in, side_by, side_share, side_value, whole_in};
-ghost use Rattle.table_risk.specs.Rows.{comes_before, rank_cmp, rows_of};
+ghost use Rattle.table_risk.specs.Inside.{FitsSide, is_none, row_in, side_by, side_share, side_value, whole_in};
+ghost use Rattle.table_risk.specs.Rows.{comes_before, rank_cmp, rows_of, wanted_in};
 ghost use Rattle.table_groups.specs.Tally.{by_bytes, value_in};
 
 use crate::classes::{Class, Search, classes_of};
 use crate::firsts::find_firsts;
+use crate::occupants::occupants_of;
 use crate::shares::share;
 use crate::{By, Memory};
 use net_addr::NetSet;
@@ -19,8 +18,7 @@ use std::cmp::Ordering;
 use std::hash::BuildHasher;
 use std::sync::ledger::Ledger;
 use steps::Steps;
-use table_groups::{Group, Tally, copy_of, value_of};
-use tables::Tables;
+use table_groups::{Group, TableView, Tally, copy_of, value_of};
 
 /// A group, the index of its first record, and which part falls to it, at most, of the picks from
 /// both tables, of those from the new table only, and of a search of the tried table, in parts of a
@@ -34,11 +32,20 @@ pub struct Row {
     pub tried: u32,
 }
 
-/// One table: how many starts lead to records of each chance, and how many records it has.
+/// One table: how many starts lead to records of each chance, how many records it has, and how many
+/// of its slots have one.
 #[derive(Drop)]
 pub(crate) struct Side<'a, H: BuildHasher> {
     classes: Vec<Class<'a, H>>,
     wanted: u32,
+    slots: usize,
+}
+
+/// Returns `true` if the side's table has no record, or none in a slot.
+fn is_none<H: BuildHasher>(side: &Side<'_, H>) -> bool
+    ensures { result ≡ is_none (side_value side.now) }
+{
+    side.wanted == 0 || side.slots == 0
 }
 
 /// Returns how many of 2^64 searches of a table end at records of a group, at most. Without
@@ -48,7 +55,7 @@ pub(crate) fn share_in<H: BuildHasher>(side: &Side<'_, H>, group: &Group) -> u12
     ensures is { result ≡ side_share (side_value side.now) group.now.items }
     ensures few { result ≤ 2 ^ 64 }
 {
-    if side.wanted == 0 {
+    if is_none(side) {
         return 0;
     }
     let share = share(side.classes.as_slice(), group, AHEAD);
@@ -114,46 +121,47 @@ fn rows_in<H: BuildHasher>(
 }
 
 /// Returns how many records a table has.
-fn wanted_in<H: BuildHasher>(tables: &Tables<'_, H>, in_new: bool) -> u32
-    ensures { result ≡ wanted_in tables.now in_new }
+fn wanted_in<T: TableView>(tables: &T, in_new: bool) -> u32
+    ensures { result ≡ wanted_in (T.view tables.now) in_new }
 {
-    let (new, tried) = tables.wanted(NetSet::all());
+    let (new, tried) = tables.wanted_in(NetSet::all());
     if in_new { new } else { tried }
 }
 
 /// Returns one table's side.
-pub(crate) fn side_of<'a, H: BuildHasher, G: BuildHasher, L: Ledger>(
+pub(crate) fn side_of<'a, T: TableView, G: BuildHasher, L: Ledger>(
     alloc: Global,
     hasher: &'a G,
-    tables: &Tables<'_, H>,
-    recs: &[Rec],
+    tables: &T,
     what: Search,
     steps: &mut Steps<L>,
 ) -> Result<Side<'a, G>, Memory>
-    requires recs { recs.now ≡ tables.now.records }
-    requires sound { IsSound tables.now }
-    ensures { IfOk result (λ side. side_value side ≡ side_by tables.now what) }
+    ensures { IfOk result (λ side. side_value side ≡ side_by (T.view tables.now) what) }
 {
     let wanted = wanted_in(tables, what.in_new);
-    let classes = classes_of(alloc, hasher, tables, recs, what, steps)?;
-    Ok(Side { classes, wanted })
+    let occupants = occupants_of(alloc, tables, what.in_new, steps)?;
+    let classes = classes_of(alloc, hasher, tables.places(), occupants.as_slice(), what)?;
+    Ok(Side {
+        classes,
+        wanted,
+        slots: occupants.len(),
+    })
 }
 
 /// Returns the rows of the groups of all records, in the order of the first ones.
-fn rows_of<H: BuildHasher, G: BuildHasher, L: Ledger>(
+fn rows_of<T: TableView, G: BuildHasher, L: Ledger>(
     alloc: Global,
     hasher: &G,
-    tables: &Tables<'_, H>,
+    tables: &T,
     recs: &[Rec],
     by: By,
     now: u32,
     steps: &mut Steps<L>,
 ) -> Result<Vec<Row>, Memory>
-    requires recs { recs.now ≡ tables.now.records }
-    requires sound { IsSound tables.now }
-    ensures { IfOk result (λ rows. rows.items ≡ rows_of tables.now by now) }
+    requires { recs.now ≡ (T.view tables.now).records }
+    ensures { IfOk result (λ rows. rows.items ≡ rows_of (T.view tables.now) by now) }
 {
-    let firsts = find_firsts(alloc, hasher, tables.placer(), by, recs)?;
+    let firsts = find_firsts(alloc, hasher, tables.places(), by, recs)?;
     let in_new = Search {
         in_new: true,
         by,
@@ -164,8 +172,8 @@ fn rows_of<H: BuildHasher, G: BuildHasher, L: Ledger>(
         by,
         now,
     };
-    let new = side_of(alloc, hasher, tables, recs, in_new, steps)?;
-    let tried = side_of(alloc, hasher, tables, recs, in_tried, steps)?;
+    let new = side_of(alloc, hasher, tables, in_new, steps)?;
+    let tried = side_of(alloc, hasher, tables, in_tried, steps)?;
     Ok(rows_in(alloc, &new, &tried, &firsts, recs.len())?)
 }
 
@@ -180,18 +188,18 @@ fn rank_cmp(a: &Row, b: &Row) -> Ordering
 }
 
 /// Returns the rows of the groups of all records, those with more picks first.
-pub(crate) fn rows_in_order<H: BuildHasher, G: BuildHasher, L: Ledger>(
+pub(crate) fn rows_in_order<T: TableView, G: BuildHasher, L: Ledger>(
     alloc: Global,
     hasher: &G,
-    tables: &Tables<'_, H>,
+    tables: &T,
     recs: &[Rec],
     by: By,
     now: u32,
     steps: &mut Steps<L>,
 ) -> Result<Vec<Row>, Memory>
-    requires recs { recs.now ≡ tables.now.records }
-    requires sound { IsSound tables.now }
-    ensures rows { IfOk result (λ rows. IsPermutation (rows_of tables.now by now) rows.items) }
+    requires { recs.now ≡ (T.view tables.now).records }
+    ensures rows { IfOk result (λ rows.
+        IsPermutation (rows_of (T.view tables.now) by now) rows.items) }
     ensures order { IfOk result (λ rows. IsSortedBy comes_before rows.items) }
 {
     let mut rows = rows_of(alloc, hasher, tables, recs, by, now, steps)?;

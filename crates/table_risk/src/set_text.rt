@@ -8,7 +8,7 @@ ghost use Rattle.table_risk.specs.SetTexts.{line_at, lines_at, set_line, sets_te
 use crate::Memory;
 use crate::leads::known_of;
 use crate::ten::ten_part;
-use crate::text::{put_heading, put_part, put_parts, used_new, used_tried};
+use crate::text::{put_heading_of, put_part, put_parts};
 use net_addr::put_text;
 use risk_parts::{AddrSet, Lead, Parts, parts_among, put_set};
 use risk_sum::Kind;
@@ -108,17 +108,10 @@ pub fn sets_text<L: Ledger, H: BuildHasher, G: BuildHasher>(
     requires { All IsProperSet sets.now }
     ensures { IfOk result (λ text. text.items ≡ sets_text tables.now now sets.now) }
 {
-    let counts = tables.counts();
-    let part = ten_part(alloc, hasher, tables, sets, now, steps)?;
     let known = known_of(alloc, tables, now, steps)?;
+    let part = ten_part(alloc, hasher, tables, sets, now, steps)?;
     let mut out = Vec::new(alloc);
-    put_heading(
-        counts.new_count,
-        counts.tried_count,
-        used_new(tables, steps),
-        used_tried(tables, steps),
-        &mut out,
-    )?;
+    put_heading_of(tables, &mut out, steps)?;
     put_lines(
         alloc,
         known.leads.as_slice(),

@@ -128,7 +128,7 @@ pub(crate) fn ten_part<L: Ledger, H: BuildHasher, G: BuildHasher>(
         by: By::Peer,
         now,
     };
-    let new = side_of(alloc, hasher, tables, recs.items(), in_new, steps)?;
-    let tried = side_of(alloc, hasher, tables, recs.items(), in_tried, steps)?;
+    let new = side_of(alloc, hasher, tables, in_new, steps)?;
+    let tried = side_of(alloc, hasher, tables, in_tried, steps)?;
     Ok(part_of(alloc, &new, &tried, &groups)?)
 }

@@ -1,23 +1,18 @@
-ghost use Rattle.std.specs.Prelude.{◌≡◌, ◌<◌, ◌++◌, true, false, IfOk, OnOk, option_map, slice_get};
-ghost use Rattle.std.specs.List.{flat_map, list_any, range_with_len};
-ghost use Rattle.net_addr.specs.NetSet.{all};
-ghost use Rattle.slot_grid.specs.declared.sizes.TheConstants.{NEW_BUCKETS, SLOTS, TRIED_BUCKETS};
-ghost use Rattle.table_laws.specs.Searches.{has_candidate};
-ghost use Rattle.table_risk.specs.Inside.{in_mask};
-ghost use Rattle.table_risk.specs.Texts.{IsRiskText, four_digits, heading, name_by, name_in, network_name, numbers_text, part_text, parts_text, row_text, used_buckets, word_of};
+ghost use Rattle.std.specs.Prelude.{◌≡◌, ◌++◌, IfOk, OnOk, option_map, slice_get};
+ghost use Rattle.std.specs.List.{flat_map};
+ghost use Rattle.table_risk.specs.Texts.{IsRiskText, four_digits, heading, heading_of, name_by, name_in, network_name, numbers_text, part_text, parts_text, row_text, used_buckets, word_of};
 
+use crate::occupants::is_used;
 use crate::rows::rows_in_order;
 use crate::{By, Memory, Row};
 use net_addr::{Net, put_number, put_text};
 use peer_rec::Rec;
 use placing::Placer;
-use slot_grid::{NEW_BUCKETS, TRIED_BUCKETS};
 use std::alloc::Global;
 use std::hash::BuildHasher;
 use std::sync::ledger::Ledger;
 use steps::Steps;
-use table_groups::name_of;
-use tables::Tables;
+use table_groups::{TableView, bucket_count, name_of};
 
 /// Appends the four digits of a number below 10,000.
 #[tactic(auto, unfolding(crate::specs::Texts::four_digits))]
@@ -165,65 +160,14 @@ fn put_rows(
     Ok(())
 }
 
-/// Returns `true` if a slot of a bucket is in the mask.
-fn has_slot(mask: u64) -> bool
-    ensures { result ≡ list_any (in_mask mask) (range_with_len 0 SLOTS) }
-{
-    mask != 0
-}
-
-/// Returns `true` if a bucket of the new table has a record.
-fn is_used_new<H: BuildHasher, L: Ledger>(
-    tables: &Tables<'_, H>,
-    bucket: u16,
-    steps: &mut Steps<L>,
-) -> bool
-    requires { bucket < NEW_BUCKETS }
-    ensures { result ≡ has_candidate tables.now true all bucket }
-{
-    has_slot(tables.new_mask(bucket, steps))
-}
-
-/// Returns `true` if a bucket of the tried table has a record.
-fn is_used_tried<H: BuildHasher, L: Ledger>(
-    tables: &Tables<'_, H>,
-    bucket: u16,
-    steps: &mut Steps<L>,
-) -> bool
-    requires { bucket < TRIED_BUCKETS }
-    ensures { result ≡ has_candidate tables.now false all bucket }
-{
-    has_slot(tables.tried_mask(bucket, steps))
-}
-
-/// Returns how many buckets of the new table have a record.
+/// Returns how many buckets of a table have a record.
 #[tactic(auto, unfolding(crate::specs::Texts::used_buckets))]
-pub(crate) fn used_new<H: BuildHasher, L: Ledger>(
-    tables: &Tables<'_, H>,
-    steps: &mut Steps<L>,
-) -> u32
-    ensures { result ≡ used_buckets tables.now true }
+fn used_buckets<T: TableView, L: Ledger>(tables: &T, in_new: bool, steps: &mut Steps<L>) -> u32
+    ensures { result ≡ used_buckets (T.view tables.now) in_new }
 {
     let mut count = 0;
-    for bucket in 0..NEW_BUCKETS {
-        if is_used_new(tables, bucket, steps) {
-            count += 1;
-        }
-    }
-    count
-}
-
-/// Returns how many buckets of the tried table have a record.
-#[tactic(auto, unfolding(crate::specs::Texts::used_buckets))]
-pub(crate) fn used_tried<H: BuildHasher, L: Ledger>(
-    tables: &Tables<'_, H>,
-    steps: &mut Steps<L>,
-) -> u32
-    ensures { result ≡ used_buckets tables.now false }
-{
-    let mut count = 0;
-    for bucket in 0..TRIED_BUCKETS {
-        if is_used_tried(tables, bucket, steps) {
+    for bucket in 0..bucket_count(in_new) {
+        if is_used(tables, in_new, bucket, steps) {
             count += 1;
         }
     }
@@ -244,7 +188,7 @@ fn put_numbers(label: &[u8], new: u32, tried: u32, out: &mut Vec<u8>) -> Result<
 
 /// Appends the first line, from how many records and used buckets each table has.
 #[tactic(auto, unfolding(crate::specs::Texts::heading))]
-pub(crate) fn put_heading(
+fn put_heading(
     new: u32,
     tried: u32,
     new_buckets: u32,
@@ -260,32 +204,39 @@ pub(crate) fn put_heading(
     Ok(())
 }
 
+/// Appends the first line: how many records and used buckets each table has.
+pub(crate) fn put_heading_of<T: TableView, L: Ledger>(
+    tables: &T,
+    out: &mut Vec<u8>,
+    steps: &mut Steps<L>,
+) -> Result<(), Memory>
+    ensures { OnOk result (out.new.items ≡ out.old.items ++ heading_of (T.view tables.now)) }
+{
+    let (new, tried) = tables.sizes();
+    let new_buckets = used_buckets(tables, true, steps);
+    let tried_buckets = used_buckets(tables, false, steps);
+    put_heading(new, tried, new_buckets, tried_buckets, out)
+}
+
 /// Returns the text of which part of the picks falls to each group of records at a time, in seconds
 /// since 1970.
-pub fn risk_text<L: Ledger, H: BuildHasher, G: BuildHasher>(
+pub fn risk_text<T: TableView, G: BuildHasher, L: Ledger>(
     alloc: Global,
     hasher: &G,
-    tables: &Tables<'_, H>,
+    tables: &T,
     by: By,
     now: u32,
     steps: &mut Steps<L>,
 ) -> Result<Vec<u8>, Memory>
-    ensures { IfOk result (λ text. IsRiskText tables.now by now text.items) }
+    ensures { IfOk result (λ text. IsRiskText (T.view tables.now) by now text.items) }
 {
-    let counts = tables.counts();
-    let recs = tables.recs(steps)?;
+    let recs = tables.records(steps)?;
     let rows = rows_in_order(alloc, hasher, tables, recs.items(), by, now, steps)?;
     let mut out = Vec::new(alloc);
-    put_heading(
-        counts.new_count,
-        counts.tried_count,
-        used_new(tables, steps),
-        used_tried(tables, steps),
-        &mut out,
-    )?;
+    put_heading_of(tables, &mut out, steps)?;
     put_rows(
         alloc,
-        tables.placer(),
+        tables.places(),
         by,
         recs.items(),
         rows.as_slice(),

@@ -10,20 +10,20 @@ use Rattle.table_risk.proofs.classes.class_of.Goals as goal
 
 pub overflow_add-all : goal.overflow_add-all
 overflow_add-all g c =
-    let likely : (chance c.rec-item.result c.args.what.now == c.args.chance) ≡ true =
-    eq-eqb (chance c.rec-item.result c.args.what.now) c.args.chance (sym c.chance.ensures ∙ c.if-chance-from.true ∙ c.from.ensures) in
+    let likely : (chance c.occupant-item.result.rec c.args.what.now == c.args.chance) ≡ true =
+    eq-eqb (chance c.occupant-item.result.rec c.args.what.now) c.args.chance (sym c.chance.ensures ∙ c.if-chance-from.true ∙ c.from.ensures) in
     omega (
       arith,
-      sum_fits c.args.tables.now c.args.what c.args.chance c.loop-rec.rec-index c.args.recs.now c.rec-item.result c.requires.recs c.loop-rec-test.true c.rec-item.is likely c.loop-rec.all
-          c.starts_of-starts.result c.loop-rec.invariant.all c.starts_of-starts.ensures c.requires.few,
+      sum_fits c.args.placer.now c.args.what c.args.chance c.loop-occupant.occupant-index c.args.occupants.now c.occupant-item.result c.loop-occupant-test.true c.occupant-item.is likely c.loop-occupant.all
+          c.loop-occupant.invariant.all c.requires,
     )
 
 pub add_starts-requires : goal.add_starts-requires
 add_starts-requires g c =
-    let likely : (chance c.rec-item.result c.args.what.now == c.args.chance) ≡ true =
-    eq-eqb (chance c.rec-item.result c.args.what.now) c.args.chance (sym c.chance.ensures ∙ c.if-chance-from.true ∙ c.from.ensures) in
-    let few : c.loop-rec.all + c.starts_of-starts.result ≤ 65536 =
-    sum_fits c.args.tables.now c.args.what c.args.chance c.loop-rec.rec-index c.args.recs.now c.rec-item.result c.requires.recs c.loop-rec-test.true c.rec-item.is likely c.loop-rec.all
-    c.starts_of-starts.result c.loop-rec.invariant.all c.starts_of-starts.ensures c.requires.few in
-    λ h. group_fits (flat_map (visits_for c.args.tables.now c.args.what c.args.chance) (take c.loop-rec.rec-index c.args.tables.now.records)) (by_bytes c.loop-rec.groups.entries) h c.loop-rec.all
-    c.starts_of-starts.result c.loop-rec.invariant.groups c.loop-rec.invariant.all few
+    let likely : (chance c.occupant-item.result.rec c.args.what.now == c.args.chance) ≡ true =
+    eq-eqb (chance c.occupant-item.result.rec c.args.what.now) c.args.chance (sym c.chance.ensures ∙ c.if-chance-from.true ∙ c.from.ensures) in
+    let few : c.loop-occupant.all + c.occupant-item.result.starts ≤ 65536 =
+    sum_fits c.args.placer.now c.args.what c.args.chance c.loop-occupant.occupant-index c.args.occupants.now c.occupant-item.result c.loop-occupant-test.true c.occupant-item.is likely
+    c.loop-occupant.all c.loop-occupant.invariant.all c.requires in
+    λ h. group_fits (flat_map (visits_for c.args.placer.now c.args.what c.args.chance) (take c.loop-occupant.occupant-index c.args.occupants.now)) (by_bytes c.loop-occupant.groups.entries) h
+    c.loop-occupant.all c.occupant-item.result.starts c.loop-occupant.invariant.groups c.loop-occupant.invariant.all few

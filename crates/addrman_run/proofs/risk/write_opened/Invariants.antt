@@ -1,5 +1,0 @@
-use Rattle.std.proofs.Common.{◌≡◌}
-use Rattle.addrman_run.proofs.risk.write_opened.Given as goal
-
-abbrev pub ghosts-text_of : goal.ghosts-text_of
-ghosts-text_of g a = record { name = a.blank.name; parts = a.blank.parts }
