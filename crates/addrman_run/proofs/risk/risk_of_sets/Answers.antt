@@ -7,8 +7,8 @@ use Rattle.host_io.specs.Outside.{outside}
 use Rattle.addrman_run.specs.Risk.{RiskEnds}
 use Rattle.addrman_run.proofs.risk.risk_of_sets.Goals as goal
 
-pub returns-in-File-clause-outcome : goal.returns-in-File-clause-outcome
-returns-in-File-clause-outcome g c =
+pub returns-clause-outcome : goal.returns-clause-outcome
+returns-clause-outcome g c =
     let old = outside g.L.Source g.F.Folder g.K.Sink c.args.log.now c.args.folder.now c.args.out.now in
     let new = outside g.L.Source g.F.Folder g.K.Sink c.risk_lines.new.log c.risk_lines.new.folder c.risk_lines.new.out in
     subst (λ (tables : TablesFrom). RiskEnds Sets tables old new c.risk_lines.result) (sym c.in-File.is)
