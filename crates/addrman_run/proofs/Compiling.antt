@@ -1,7 +1,7 @@
 -- The line about a compiled table, and what a compile leaves.
 use Rattle.std.proofs.Common.{◌≡◌, ℕ, List, ◌++◌, length, codes, decimal, refl, sym, ap, ◌∙◌, subst, inl, inr}
 use Rattle.std.specs.Prelude.{Option, Some, None, IfSome}
-use Rattle.host_io.specs.Disk.{Entry, Allows, MayHave, exactly}
+use Rattle.host_io.specs.Disk.{DiskEntry, Allows, MayHave, exactly}
 use Rattle.host_io.specs.Past.{Past, Always}
 use Rattle.host_io.specs.PerName.{under}
 use Rattle.host_io.specs.Writing.{Appended, AppendedPart}
@@ -33,7 +33,7 @@ as_read None = refl
 as_read (Some bytes) = refl
 
 -- a file that every crash leaves reads as that
-reads : (e : Entry) (bytes : List ℕ) → ((found : Option (List ℕ)) → MayHave e found → found ≡ Some bytes) → e.file ≡ Some bytes
+reads : (e : DiskEntry) (bytes : List ℕ) → ((found : Option (List ℕ)) → MayHave e found → found ≡ Some bytes) → e.file ≡ Some bytes
 reads e bytes all = all e.file (inl (as_read e.file))
 
 pub in_place : (at : Name) (file : List ℕ) (past : Option Past) → IfSome past (λ p. IsStored at file p.now) → IsInPlace at file past

@@ -1,6 +1,6 @@
 -- Worked examples of the rules of the disk: for each, what a crash may leave by it, and what not.
 use Rattle.std.proofs.Common.{◌≡◌, ℕ, ◌+◌, List, [], ◌∷◌, Option, Some, None, refl, ap, inl, inr, length, arith}
-use Rattle.host_io.specs.Disk.{Disk, Entry, IsImage, MayHave, files_on, Partly, PartlyAppended, after_append, after_create, after_rename, after_sync, after_sync_dir, created, safe}
+use Rattle.host_io.specs.Disk.{Disk, DiskEntry, IsImage, MayHave, files_on, Partly, PartlyAppended, after_append, after_create, after_rename, after_sync, after_sync_dir, created, safe}
 use Rattle.host_io.specs.PerName.{each, under, with}
 use Rattle.host_io.proofs.Fates.{may_have_file}
 use Rattle.host_io.proofs.Names.{under_each}
@@ -165,4 +165,4 @@ not_lost new fault may = elim (fault.leaves Peers None may) [
 -- The folder as it reads is one that a crash may leave.
 as_it_reads : (disk : Disk) → IsImage disk (files_on disk)
 as_it_reads disk name =
-    may_have_file (under disk name) _ (under_each (λ (entry : Entry). entry.file) disk name)
+    may_have_file (under disk name) _ (under_each (λ (entry : DiskEntry). entry.file) disk name)

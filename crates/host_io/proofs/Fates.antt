@@ -1,6 +1,6 @@
 -- A fate at an index is one of the fates, and an image name by name.
 use Rattle.std.proofs.Common.{ℕ, ◌<◌, List, [], ◌∷◌, zero, suc, length, get_or, inl, inr, Option, None, Some, ◌≡◌, ◌∙◌, ap, refl, subst, sym, arith}
-use Rattle.host_io.specs.Disk.{Allows, AllowsOne, Disk, Entry, IsImage, MayHave, exactly, files_on}
+use Rattle.host_io.specs.Disk.{Allows, AllowsOne, Disk, DiskEntry, IsImage, MayHave, exactly, files_on}
 use Rattle.host_io.specs.Files.{Files}
 use Rattle.host_io.specs.PerName.{under}
 use Rattle.host_io.specs.declared.name.Name.TheVariants.{Peers, PeersTemp, Asmap, AsmapTemp, AsmapOld, Prefixes, Bans, BansTemp}
@@ -33,7 +33,7 @@ exactly_allows None = refl
 exactly_allows (Some bytes) = refl
 
 -- the file as it reads is one of those that a crash may leave
-pub may_have_file : (entry : Entry) (found : Option (List ℕ)) → found ≡ entry.file → MayHave entry found
+pub may_have_file : (entry : DiskEntry) (found : Option (List ℕ)) → found ≡ entry.file → MayHave entry found
 may_have_file entry found is = subst (MayHave entry) (sym is) (inl (exactly_allows entry.file))
 
 -- the files as they read, name by name

@@ -16,18 +16,18 @@ use Rattle.host_io.specs.declared.name.PerName.{PerName}
 -- One name of a folder: the file as it reads; whether it was created or appended to since its last
 -- `sync`; whether it was created since the last `sync_dir`; and what else renames since then may
 -- leave at the name.
-pub record Entry : Type 0 where
+pub record DiskEntry : Type 0 where
   pub file : Option (List ℕ)
   pub is_torn : Bool
   pub is_loose : Bool
   pub others : List Fate
 
 -- A name whose file, or absence, is safe from a crash.
-abbrev pub safe : Option (List ℕ) → Entry
+abbrev pub safe : Option (List ℕ) → DiskEntry
 safe bytes = record { file = bytes; is_torn = false; is_loose = false; others = [] }
 
 abbrev pub Disk : Type 0
-Disk = PerName Entry
+Disk = PerName DiskEntry
 
 -- The files as they read.
 abbrev pub files_on : Disk → Files
@@ -55,15 +55,15 @@ onto_if true fate fates = fate ∷ fates
 onto_if false fate fates = fates
 
 -- A file that was created or appended to since it was synced may have any bytes.
-abbrev pub file_fates : Entry → List Fate → List Fate
+abbrev pub file_fates : DiskEntry → List Fate → List Fate
 file_fates entry rest = exactly entry.file ∷ onto_if entry.is_torn AnyBytes rest
 
 -- A file that was created since the folder was synced may be absent.
-abbrev pub fates : Entry → List Fate
+abbrev pub fates : DiskEntry → List Fate
 fates entry = file_fates entry (onto_if entry.is_loose Absent entry.others)
 
 -- A crash may leave this at the name.
-abbrev pub MayHave : Entry → Option (List ℕ) → Type 0
+abbrev pub MayHave : DiskEntry → Option (List ℕ) → Type 0
 MayHave entry found = AllowsOne (fates entry) found
 
 -- A crash may leave this folder.
@@ -73,23 +73,23 @@ IsImage disk image = (name : Name) → MayHave (under disk name) (under image na
 -- HOW A CALL CHANGES A NAME
 
 -- `create`: an empty file. It ends what earlier renames may leave at the name.
-abbrev pub created : Entry
+abbrev pub created : DiskEntry
 created = record { file = Some []; is_torn = true; is_loose = true; others = [] }
 
 -- `append`: these bytes at the end.
-abbrev pub appended : List ℕ → Entry → Entry
+abbrev pub appended : List ℕ → DiskEntry → DiskEntry
 appended bytes entry = record entry {
   file = option_map (λ old. old ++ bytes) entry.file;
   is_torn = true;
 }
 
 -- `sync`: the file has its bytes.
-abbrev pub synced : Entry → Entry
+abbrev pub synced : DiskEntry → DiskEntry
 synced entry = record entry { is_torn = false }
 
 -- `rename`, at the target: it reads as the source. A crash may leave the source's file as it was
 -- then, or what it might have left there before.
-abbrev pub target : Entry → Entry → Entry
+abbrev pub target : DiskEntry → DiskEntry → DiskEntry
 target source old = record {
   file = source.file;
   is_torn = source.is_torn;
@@ -99,7 +99,7 @@ target source old = record {
 
 -- `rename`, at the source: it is absent. A crash may leave the file that was there, or what an
 -- earlier rename may leave.
-abbrev pub left : Entry → Entry
+abbrev pub left : DiskEntry → DiskEntry
 left source = record {
   file = None;
   is_torn = false;
@@ -108,7 +108,7 @@ left source = record {
 }
 
 -- `sync_dir`, at each name: no other file than the one it reads as. A torn one stays torn.
-abbrev pub settled : Entry → Entry
+abbrev pub settled : DiskEntry → DiskEntry
 settled entry = record entry { is_loose = false; others = [] }
 
 -- HOW A CALL CHANGES THE FOLDER: a name that it does not touch stays.

@@ -51,7 +51,7 @@ pub struct DirEntry {
 }
 
 impl Model for DirEntry {
-    ghost use Rattle.host_io.specs.Disk.{Entry as DiskEntry};
+    ghost use Rattle.host_io.specs.Disk.{DiskEntry};
 
     ghost Value = { DiskEntry };
 

@@ -40,6 +40,6 @@ pub use lines::{LINE_FEED, is_passed_over, split_line};
 pub use list::{Bytes, ListOf};
 pub use mem_folder::MemFolder;
 pub use name::{NAMES, Name, PerName};
-pub use reading::{PIECE, read_past};
+pub use reading::{PIECE, read_past, room};
 pub use sink::{MemSink, Sink, StdSink, SureSink, write_all};
 pub use source::{MemSource, Source, StdSource, SureSource};

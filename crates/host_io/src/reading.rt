@@ -12,7 +12,7 @@ use std::alloc::{AllocError, Global};
 pub const PIECE: usize = 65_536;
 
 /// Makes room for one read.
-fn room(alloc: Global) -> Result<Vec<u8>, AllocError>
+pub fn room(alloc: Global) -> Result<Vec<u8>, AllocError>
     ensures { IfOk result (λ piece. vec_len piece ≡ PIECE) }
 {
     vec![in alloc; 0u8; PIECE]

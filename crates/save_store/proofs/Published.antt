@@ -1,7 +1,7 @@
 -- What a crash leaves while a temporary file is put in the place of another.
 use Rattle.std.proofs.Common.{◌≡◌, ℕ, List, [], inl, inr, refl, sym, ap, ◌∙◌, subst}
 use Rattle.std.specs.Prelude.{Option, Some, None, IfSome, ◌≢◌, ◌⊎◌, true, false, Bool}
-use Rattle.host_io.specs.Disk.{Disk, Entry, Allows, AllowsOne, MayHave, Partly, after_rename, after_sync_dir, exactly, fates, file_fates, left, onto_if, settled, target}
+use Rattle.host_io.specs.Disk.{Disk, DiskEntry, Allows, AllowsOne, MayHave, Partly, after_rename, after_sync_dir, exactly, fates, file_fates, left, onto_if, settled, target}
 use Rattle.host_io.specs.Past.{Past, AfterFault, Always, after}
 use Rattle.host_io.specs.PerName.{under, with}
 use Rattle.host_io.specs.declared.entry.Fate.{Fate}
@@ -12,7 +12,7 @@ use Rattle.host_io.proofs.Names.{under_each, under_other, under_same}
 use Rattle.save_store.specs.Saves.{IsStored, IsSynced, KeepsOthers, PublishesOrNot}
 
 -- a file that is synced: a crash that leaves it leaves its bytes
-record Synced (bytes : List ℕ) (e : Entry) : Type 0 where
+record Synced (bytes : List ℕ) (e : DiskEntry) : Type 0 where
   reads : e.file ≡ Some bytes
   synced : e.is_torn ≡ false
 
@@ -27,12 +27,12 @@ whole is_torn rest found is allowed =
     subst (λ b. AllowsOne (onto_if b AnyBytes rest) found) is allowed
 
 -- a name that has this file before others
-file_or : (bytes : List ℕ) (e : Entry) (rest : List Fate) (found : Option (List ℕ)) → Synced bytes e
+file_or : (bytes : List ℕ) (e : DiskEntry) (rest : List Fate) (found : Option (List ℕ)) → Synced bytes e
     → AllowsOne (file_fates e rest) found → (found ≡ Some bytes) ⊎ AllowsOne rest found
 file_or bytes e rest found safe (inl now) = inl (exact bytes e.file found safe.reads now)
 file_or bytes e rest found safe (inr more) = inr (whole e.is_torn rest found safe.synced more)
 
-at_target : (bytes : List ℕ) (source old : Entry) (found : Option (List ℕ)) → Synced bytes source
+at_target : (bytes : List ℕ) (source old : DiskEntry) (found : Option (List ℕ)) → Synced bytes source
     → MayHave (target source old) found → MayHave old found ⊎ (found ≡ Some bytes)
 at_target bytes source old found safe may =
     elim (file_or bytes source (file_fates source (fates old)) found safe may) [
@@ -50,12 +50,12 @@ torn_or true rest found (inr none) = absurd none
 torn_or false rest found allowed = absurd allowed
 
 -- syncing the folder adds nothing
-settles : (e : Entry) (found : Option (List ℕ)) → MayHave (settled e) found → MayHave e found
+settles : (e : DiskEntry) (found : Option (List ℕ)) → MayHave (settled e) found → MayHave e found
 settles e found (inl now) = inl now
 settles e found (inr more) = inr (torn_or e.is_torn (onto_if e.is_loose Absent e.others) found more)
 
 -- after the folder is synced, the target is the renamed file
-at_last : (bytes : List ℕ) (source old : Entry) (found : Option (List ℕ)) → Synced bytes source
+at_last : (bytes : List ℕ) (source old : DiskEntry) (found : Option (List ℕ)) → Synced bytes source
     → MayHave (settled (target source old)) found → found ≡ Some bytes
 at_last bytes source old found safe may = elim (file_or bytes source [] found safe may) [
   | inl is ↦ is

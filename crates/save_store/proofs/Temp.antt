@@ -3,7 +3,7 @@ use Rattle.std.proofs.Common.{◌≡◌, ℕ, List, [], ◌∷◌, ◌++◌, ref
 use Rattle.std.specs.Prelude.{Option, Some, None, IfSome, IsSome, true, false, Bool}
 use Rattle.std.specs.Option.{option_map}
 use Rattle.host_io.specs.declared.entry.Fate.TheVariants.{AnyBytes}
-use Rattle.host_io.specs.Disk.{Disk, Entry, AllowsOne, MayHave, Partly, PartlyAppended, after_append, after_create, after_sync, appended, created, exactly, onto_if, synced}
+use Rattle.host_io.specs.Disk.{Disk, DiskEntry, AllowsOne, MayHave, Partly, PartlyAppended, after_append, after_create, after_sync, appended, created, exactly, onto_if, synced}
 use Rattle.host_io.specs.Files.{IsThere}
 use Rattle.host_io.specs.Past.{Past, AfterFault, Always, after, files_of}
 use Rattle.host_io.specs.PerName.{under, with}
@@ -19,20 +19,20 @@ pub unchanged : (temp : Name) (old : Option Past) → Always old old (KeepsOther
 unchanged temp old = begun (KeepsOthers temp) old (λ d other apart. refl)
 
 -- a call that puts one name anew
-pub changed : (temp : Name) (call : Disk → Entry) (old mid new : Option Past)
+pub changed : (temp : Name) (call : Disk → DiskEntry) (old mid new : Option Past)
     → Always old mid (KeepsOthers temp) → new ≡ after (λ d. with d temp (call d)) mid
     → Always old new (KeepsOthers temp)
 changed temp call old mid new so_far goes =
     went (KeepsOthers temp) (λ d. with d temp (call d)) old mid new so_far goes
     (λ start d only other apart. under_other d temp other (call d) apart ∙ only other apart)
 
-between : (temp : Name) (call : Disk → Entry) (start d e : Disk) → KeepsOthers temp start d
+between : (temp : Name) (call : Disk → DiskEntry) (start d e : Disk) → KeepsOthers temp start d
     → Partly (λ disk. with disk temp (call disk)) d e → KeepsOthers temp start e
 between temp call start d e only fault other apart =
     fault.same other (under_other d temp other (call d) apart) ∙ only other apart
 
 -- the same if it fails
-pub failed : (temp : Name) (call : Disk → Entry) (old mid new : Option Past)
+pub failed : (temp : Name) (call : Disk → DiskEntry) (old mid new : Option Past)
     → Always old mid (KeepsOthers temp) → AfterFault (Partly (λ d. with d temp (call d))) mid new
     → Always old new (KeepsOthers temp)
 failed temp call old mid new so_far fault =
@@ -52,7 +52,7 @@ failed_append temp bytes old mid new so_far fault =
 pub there : (name : Name) (past : Option Past)
     → IfSome past (λ p. IsSome (under p.now name).file) → IsThere (files_of past) name
 there name None is = tt
-there name (Some p) is = subst IsSome (sym (under_each (λ (e : Entry). e.file) p.now name)) is
+there name (Some p) is = subst IsSome (sym (under_each (λ (e : DiskEntry). e.file) p.now name)) is
 
 some_there : (now : Option (List ℕ)) (bytes : List ℕ) → now ≡ Some bytes → IsSome now
 some_there now bytes is = subst IsSome (sym is) refl
@@ -79,7 +79,7 @@ pub created_reads : (name : Name) (old new : Option Past) → new ≡ after (aft
     → ReadsAs name [] new
 created_reads name None new goes = subst (ReadsAs name []) (sym goes) tt
 created_reads name (Some p) new goes =
-    subst (ReadsAs name []) (sym goes) (ap (λ (e : Entry). e.file) (under_same p.now name created))
+    subst (ReadsAs name []) (sym goes) (ap (λ (e : DiskEntry). e.file) (under_same p.now name created))
 
 pub appended_reads : (name : Name) (written bytes : List ℕ) (old new : Option Past)
     → ReadsAs name written old → new ≡ after (after_append name bytes) old
@@ -88,7 +88,7 @@ appended_reads name written bytes None new reads goes =
     subst (ReadsAs name (written ++ bytes)) (sym goes) tt
 appended_reads name written bytes (Some p) new reads goes =
     subst (ReadsAs name (written ++ bytes)) (sym goes)
-    (ap (λ (e : Entry). e.file) (under_same p.now name (appended bytes (under p.now name)))
+    (ap (λ (e : DiskEntry). e.file) (under_same p.now name (appended bytes (under p.now name)))
     ∙ ap (option_map (λ old. old ++ bytes)) reads)
 
 -- what is synced
@@ -101,12 +101,12 @@ is_synced name bytes None new reads goes =
 is_synced name bytes (Some p) new reads goes =
     let at = under_same p.now name (synced (under p.now name)) in
     subst (λ o. IfSome o (λ q. IsSynced name bytes q.now)) (sym goes) (record {
-      reads = ap (λ (e : Entry). e.file) at ∙ reads;
-      synced = ap (λ (e : Entry). e.is_torn) at;
+      reads = ap (λ (e : DiskEntry). e.file) at ∙ reads;
+      synced = ap (λ (e : DiskEntry). e.is_torn) at;
     })
 
 -- a name that was created, appended to and synced
-written : List ℕ → Entry
+written : List ℕ → DiskEntry
 written bytes = synced (appended bytes created)
 
 only_written : (bytes found : List ℕ) → MayHave (written bytes) (Some found) → found ≡ bytes
@@ -140,7 +140,7 @@ written_safe name bytes (Some p) one two new created appended goes =
     subst (λ o. IfSome o (λ p. IsSafe name bytes p.now))
     (sym (goes ∙ ap (after (after_sync name)) (appended ∙ ap (after (after_append name bytes)) created)))
     (record {
-      reads = ap (λ (e : Entry). e.file) (written_at name bytes p.now);
+      reads = ap (λ (e : DiskEntry). e.file) (written_at name bytes p.now);
       only = λ found may. only_written bytes found
           (subst (λ entry. MayHave entry (Some found)) (written_at name bytes p.now) may);
     })
