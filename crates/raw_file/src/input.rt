@@ -3,8 +3,8 @@ ghost use Rattle.host_io.specs.Faults.{Rose};
 ghost use Rattle.host_io.specs.Reading.{TakesAtMost};
 ghost use Rattle.raw_file.specs.Input.{IsInput, IsLong};
 
-use host_io::{Bytes, PIECE, ReadFault, Source};
-use std::alloc::{AllocError, Global};
+use host_io::{Bytes, PIECE, ReadFault, Source, room};
+use std::alloc::Global;
 
 /// Why an input is not read.
 #[derive(Clone, Copy, Debug, PartialEq, Eq)]
@@ -15,13 +15,6 @@ pub enum InputFault {
     TooLarge,
     /// Out of memory.
     Memory,
-}
-
-/// Makes room for one read.
-fn room(alloc: Global) -> Result<Vec<u8>, AllocError>
-    ensures { IfOk result (λ piece. vec_len piece ≡ PIECE) }
-{
-    vec![in alloc; 0u8; PIECE]
 }
 
 /// Reads once, at most `piece.len()` bytes, and appends them to `text`. Returns how many they are;
@@ -70,8 +63,8 @@ pub fn read_input<L: Source>(
     };
     let mut text = Vec::new(alloc);
     while text.len() <= limit {
-        let most = PIECE.min(limit - text.len() + 1);
-        match read_piece(source, &mut piece[..most], &mut text) {
+        let max = PIECE.min(limit - text.len() + 1);
+        match read_piece(source, &mut piece[..max], &mut text) {
             Ok(0) => return Ok(Bytes::of(text)),
             Ok(_) => {}
             Err(ReadFault::Failed) => return Err(InputFault::Failed),
