@@ -1,5 +1,6 @@
 """Addresses and peers: their texts, and which of them are valid, local and routable."""
 
+from functools import lru_cache
 from typing import NamedTuple
 
 import text
@@ -9,6 +10,9 @@ UNROUTABLE = "unroutable"
 LENGTHS = {IPV4: 4, IPV6: 16, ONION: 32, I2P: 32, CJDNS: 16, INTERNAL: 10}
 NETWORKS = tuple(LENGTHS)
 LABELLED = (ONION, I2P, CJDNS, INTERNAL)
+
+# Of how many addresses it is kept what they are: few are asked for often.
+KEPT = 1 << 16
 
 IPV4_IN_IPV6 = bytes.fromhex("00000000000000000000ffff")
 INTERNAL_IN_IPV6 = bytes.fromhex("fd6b88c08724")
@@ -190,6 +194,7 @@ CARRIERS = (
 )
 
 
+@lru_cache(KEPT)
 def valid(address: Address) -> bool:
     """Whether an address is valid."""
     if address.network == INTERNAL:
@@ -199,6 +204,7 @@ def valid(address: Address) -> bool:
     return not within(address.data, INVALID.get(address.network, []))
 
 
+@lru_cache(KEPT)
 def routable(address: Address) -> bool:
     """Whether an address is valid and neither local nor reserved."""
     return valid(address) and not within(
@@ -206,6 +212,7 @@ def routable(address: Address) -> bool:
     )
 
 
+@lru_cache(KEPT)
 def carried_ipv4(address: Address) -> bytes | None:
     """The IPv4 address that a routable address is or carries."""
     data = address.data
@@ -221,6 +228,7 @@ def carried_ipv4(address: Address) -> bytes | None:
     return None
 
 
+@lru_cache(KEPT)
 def class_of(address: Address) -> str:
     """The class of an address: a network, or `unroutable`."""
     if address.network == INTERNAL:

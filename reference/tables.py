@@ -296,11 +296,11 @@ class Tables:
         table = self.tried if in_tried else self.new
         buckets = places.TRIED_BUCKETS if in_tried else places.NEW_BUCKETS
         factor = ONE
-        while True:
-            slots = table.get(next(words) % buckets)
-            start = next(words) % places.SLOTS
+        for bucket_word, slot_word in zip(words, words):
+            slots = table.get(bucket_word % buckets)
             if not slots:
                 continue
+            start = slot_word % places.SLOTS
             in_turn = sorted(slots, key=lambda slot: (slot - start) % places.SLOTS)
             found = (self.records[slots[slot]] for slot in in_turn)
             first = next((record for record in found if candidate(record)), None)
@@ -309,6 +309,7 @@ class Tables:
             if next(words) % ONE * ONE < chance(first, now) * factor:
                 return first
             factor = min(factor + factor // 5, LARGEST_FACTOR)
+        raise StopIteration
 
     def sample(self, now: int, maximum: int, percent: int, classes, words: Words) -> list[Peer]:
         """Picks peers to send to another node; there are as many words as records."""
