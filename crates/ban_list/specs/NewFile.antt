@@ -1,6 +1,6 @@
 -- The file that is written for a list by the rule of Bitcoin Core: what the old file has besides
 -- its bans stays in it, and so does what the element of a ban has besides.
-use Rattle.std.specs.Prelude.{◌≡◌, ◌⊎◌, ℕ, List, [], ◌∷◌, ◌++◌, map, codes, Bool, Option, Some, None, if◌then◌else◌, option_map, unwrap_or}
+use Rattle.std.specs.Prelude.{◌≡◌, ◌⊎◌, ℕ, List, [], ◌∷◌, ◌++◌, map, codes, Bool, false, Option, Some, None, if◌then◌else◌, option_map, unwrap_or}
 use Rattle.std.specs.Cmp.Lexicographic.{slice_cmp}
 use Rattle.std.specs.List.{fold}
 use Rattle.std.specs.List.Sorted.{IsPermutation, IsSortedBy}
@@ -10,6 +10,7 @@ use Rattle.std.specs.declared.cmp.Ordering.{Ordering}
 use Rattle.serde_json.specs.Data.{Data, Members, array, member, no_members, object, put}
 use Rattle.serde_json.specs.Find.{as_object}
 use Rattle.serde_json.specs.View.{items_of, view}
+use Rattle.serde_json.specs.Written.{IsInOrder, compact_text, has_float}
 use Rattle.serde_json.specs.declared.value.Value.{Value}
 use Rattle.net_addr.specs.Address.{net_number}
 use Rattle.ban_list.specs.BanFile.{HasElements, IsElement, IsJson, ban_members, bans_text}
@@ -84,9 +85,16 @@ abbrev pub IsRest : Option (List ℕ) → Members → List Data → List (Subnet
 IsRest None members others found = (members ≡ no_members) × (found ≡ []) × (others ≡ [])
 IsRest (Some bytes) members others found = IsRestOfFile bytes members others found
 
+-- the value of the file: the members, with a list of bans and other elements under `banned_nets`
+abbrev pub named_data : List (Subnet × Members) → List Ban → List Data → Members → Data
+named_data found sorted others members =
+    object (put (codes "banned_nets")
+    (array (items_of (map (element_data found) sorted ++ others))) members)
+
 -- The members of the old file, with a new list under `banned_nets`: the bans, sorted, each with the
 -- members that the old elements of its subnet had besides, and then the old elements that are no
--- bans, as they are (`BanMapToJson` in net_types.cpp).
+-- bans, as they are (`BanMapToJson` in net_types.cpp). If no number in it is a float, it is the one
+-- text of its value without spaces.
 pub record IsNamedFile (old : Option (List ℕ)) (bans : List Ban) (text : List ℕ) : Type 0 where
   pub members : Members
   pub found : List (Subnet × Members)
@@ -95,8 +103,10 @@ pub record IsNamedFile (old : Option (List ℕ)) (bans : List Ban) (text : List 
   pub sorted : List Ban
   pub same : IsPermutation bans sorted
   pub order : IsSortedBy comes_before sorted
-  pub json : IsJson text (object (put (codes "banned_nets")
-      (array (items_of (map (element_data found) sorted ++ others))) members))
+  pub json : IsJson text (named_data found sorted others members)
+  pub in_order : IsInOrder text (named_data found sorted others members)
+  pub exact : has_float (named_data found sorted others members) ≡ false →
+      text ≡ compact_text (named_data found sorted others members)
 
 -- the text that is written for a list, by the rule and the file that it was read from
 abbrev pub IsWritten : BanRule → Option (List ℕ) → List Ban → List ℕ → Type 0

@@ -1,9 +1,11 @@
 use Rattle.std.proofs.Common.{◌≤◌, ◌++◌, Some, codes, map, sym, ap, ◌∙◌, subst}
 use Rattle.std.specs.List.Sorted.{IsPermutation}
+use Rattle.std.specs.Prelude.{string_bytes}
 use Rattle.serde_json.specs.Data.{array, depth, object, put}
 use Rattle.serde_json.specs.Read.{max_depth, read}
 use Rattle.serde_json.specs.View.{items_of, members_view, view}
-use Rattle.ban_list.specs.NewFile.{element_data}
+use Rattle.serde_json.specs.Written.{IsInOrder, compact_text, has_float}
+use Rattle.ban_list.specs.NewFile.{element_data, named_data}
 use Rattle.ban_list.proofs.NewLaws.{file_depth}
 use Rattle.ban_list.proofs.write_by_name.write_by_name.Goals as goal
 
@@ -26,4 +28,7 @@ returns c =
       same = subst (λ bans. IsPermutation bans list) c.bans.ensures.value c.in_ok-list.ensures.same;
       order = c.in_ok-list.ensures.order;
       json = (c.bytes_of.ensures.utf8, ap read c.bytes_of.ensures.value ∙ c.in_ok-text.ensures.reads_back shallow ∙ ap Some value);
+      in_order = subst (λ s. IsInOrder s (named_data found list others members)) (sym c.bytes_of.ensures.value)
+          (subst (IsInOrder (string_bytes c.in_ok-text.text)) value c.in_ok-text.ensures.order);
+      exact = λ none. c.bytes_of.ensures.value ∙ c.in_ok-text.ensures.text (ap has_float value ∙ none) ∙ ap compact_text value;
     }
