@@ -38,7 +38,7 @@ def main() -> int:
         words = changed_folder(sys.argv[1:])
         paths: dict[str, str] = {}
         plain = plain_words(words, paths)
-        code, text = command.run(plain, lambda: os.read(0, MAXIMUM_PIECE), write, Folder(paths), said)
+        code, text = command.run(plain, lambda most=MAXIMUM_PIECE: os.read(0, most), write, Folder(paths), said)
     except Stop as stop:
         words, code, text = sys.argv[1:], stop.code, stop.text
     lines = [line for line in (text, *said) if line]

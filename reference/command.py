@@ -275,7 +275,8 @@ def described_line(line: bytes, asmap: Asmap) -> str | None:
 class Run:
     """A run of a command, by the method of its name.
 
-    `read` gives bytes of standard input, and `write` takes those of standard output.
+    `read` gives bytes of standard input, at most as many as it is told or, without a number, a
+    piece, and `write` takes those of standard output.
     """
 
     def __init__(self, read, write, folder: Folder):
@@ -456,7 +457,7 @@ class Run:
         data = bytearray()
         while len(data) <= raw_rows.MAXIMUM_BYTES:
             try:
-                piece = self.read()
+                piece = self.read(min(MAXIMUM_PIECE, raw_rows.MAXIMUM_BYTES + 1 - len(data)))
             except OSError:
                 raise Stop(7, "log cannot be read")
             if not piece:
