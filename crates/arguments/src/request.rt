@@ -81,11 +81,15 @@ pub enum Request {
     },
     /// `risk source --net CHAIN`, `risk peer` and `risk network`: print which part of the picks
     /// from the tables of peers.dat, a file of this chain, or of a listing, falls to each group, at
-    /// most. `risk -`: print which part of those from peers.dat falls to each set of addresses that
-    /// a line of the log names, and to all of them.
+    /// most.
     Risk {
         by: Grouping,
         from: TablesFrom,
+    },
+    /// `risk - --net CHAIN`: print which part of those from peers.dat, a file of this chain, falls
+    /// to each set of addresses that a line of the log names, and to all of them.
+    RiskLines {
+        kind: FileKind,
     },
     /// `from-raw --key HEX64 --net CHAIN`: read a listing of tables from the log, and save it as
     /// peers.dat, a file of this kind, under this key.
