@@ -12,7 +12,7 @@ use Rattle.addrman_run.specs.Views.{ViewTextEnds}
 use Rattle.addrman_run.specs.declared.risk.TheConstants.{AFTER_RESTART}
 use Rattle.addrman_run.specs.declared.status.Status.{Status}
 
--- the name that table_risk has for what makes records one group
+-- what makes records one group
 abbrev pub by_of : Grouping → By
 by_of grouping.Source = Source
 by_of grouping.Peer = Peer

@@ -42,7 +42,7 @@ impl ViewText for RiskText {
     }
 }
 
-/// Returns the name that `table_risk` has for what makes records one group.
+/// Returns what makes records one group.
 fn by_of(by: Grouping) -> By
     ensures { result ≡ by_of by }
 {

@@ -184,8 +184,8 @@ abbrev pub IsPeersOption : List (List ℕ) → Option FileKind → Type 0
 IsPeersOption options None = options ≡ []
 IsPeersOption options (Some kind) = IsFileOptions IsAfterPeers options kind
 
--- the arguments begin with `--core`, which has a list of bans read and written as Bitcoin Core does,
--- or do not; the others are the rest
+-- the arguments begin with `--core`, which has a list of bans read and written as Bitcoin Core
+-- does, or do not; the others are the rest
 abbrev pub HasBanRule : BanRule → List (List ℕ) → List (List ℕ) → Type 0
 HasBanRule Labels rest options = options ≡ rest
 HasBanRule Names rest options = options ≡ codes "--core" ∷ rest

@@ -110,8 +110,8 @@ pub(crate) fn read_grouping_kind(words: &[String]) -> Option<(Grouping, FileKind
     }
 }
 
-/// Reads the arguments after `risk` that have sets read from the log: `--core`, and after it `-` and
-/// the arguments that choose a chain.
+/// Reads the arguments after `risk` that have sets read from the log: `--core`, and after it `-`
+/// and the arguments that choose a chain.
 pub(crate) fn read_sets_kind(words: &[String]) -> Option<FileKind>
     ensures found { IfSome result (IsFileOptions IsAfterDash (map string_bytes words.now)) }
     ensures none { IfNone result ((kind : FileKind) →

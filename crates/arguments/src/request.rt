@@ -16,7 +16,8 @@ pub enum Request {
     },
     /// `opener --key HEX64 --net CHAIN`: carry out the lines of a log that also opens, tests and
     /// closes outbound connections, from the tables that a replay with these options begins with.
-    /// With `--exempt NETS`, `--services N` and `--skip-bad-ports` some rules of Bitcoin Core count.
+    /// With `--exempt NETS`, `--services N` and `--skip-bad-ports` some rules of Bitcoin Core
+    /// count.
     Opener {
         rules: OpenRules,
         key: Option<[u8; 32]>,
@@ -53,8 +54,8 @@ pub enum Request {
         keyed: bool,
         kind: FileKind,
     },
-    /// `show --anchors --net CHAIN`: list the anchors in the file that stands in the place of
-    /// peers.dat, an anchors.dat of this chain.
+    /// `show --anchors --net CHAIN`: list the anchors in the file in the place of peers.dat, an
+    /// anchors.dat of this chain.
     Anchors {
         chain: Chain,
     },

@@ -15,7 +15,7 @@ use peers_file::Chain;
 pub enum TablesFrom {
     /// peers.dat, a file of this kind.
     File { kind: FileKind },
-    /// A listing of the tables, as JSON, of this chain, that stands in the place of peers.dat.
+    /// A listing of the tables, as JSON, of this chain, in the place of peers.dat.
     Listing { chain: Chain },
 }
 
@@ -53,8 +53,8 @@ pub(crate) fn read_tables(words: &[String]) -> Option<TablesFrom>
     }
 }
 
-/// Reads the arguments after `picture`: `--raw -` or `--core` or none of them, and after it what the
-/// colours show, and the arguments that choose a chain.
+/// Reads the arguments after `picture`: `--raw -` or `--core` or none of them, and after it what
+/// the colours show, and the arguments that choose a chain.
 pub(crate) fn read_picture(words: &[String]) -> Option<Request>
     ensures found { IfSome result (λ request. (name_of request ≡ name.Picture)
         × Reads Coloured (map string_bytes words.now) (request_values request)) }
@@ -79,8 +79,7 @@ pub(crate) fn read_picture(words: &[String]) -> Option<Request>
 }
 
 /// Reads the arguments after `risk`: `--raw -` or `--core` or none of them, and after it what makes
-/// records one group, and the arguments that choose a chain. In the place of what makes records one
-/// group may be `-`, but not after `--raw -`.
+/// records one group, or `-`, but not after `--raw -`, and the arguments that choose a chain.
 pub(crate) fn read_risk(words: &[String]) -> Option<Request>
     ensures found { IfSome result (λ request. (name_of request ≡ name.Risk)
         × Reads Grouped (map string_bytes words.now) (request_values request)) }

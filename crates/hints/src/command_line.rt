@@ -143,7 +143,8 @@ static RARE_OPTIONS: [RareOption; 10] = [
     },
     RareOption {
         flag: "--asmap",
-        commands: "picture, raw, info, groups, risk, from-raw, diff, check, lookup, decompile and address",
+        commands: "picture, raw, info, groups, risk, from-raw, diff, check, lookup, decompile \
+                   and address",
     },
     RareOption {
         flag: "--anchors",
