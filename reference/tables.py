@@ -138,6 +138,14 @@ class Tables:
         number = table.get(bucket, {}).get(slot)
         return None if number is None else self.records[number]
 
+    def occupants(self, table: dict[int, dict[int, int]], buckets: int) -> list[Record | None]:
+        """The record at each slot of a table with so many buckets."""
+        found: list[Record | None] = []
+        for bucket in range(buckets):
+            slots = table.get(bucket, {})
+            found += [self.occupant(table, bucket, slot) for slot in range(places.SLOTS)] if slots else [None] * places.SLOTS
+        return found
+
     def occupy(self, record: Record, bucket: int, slot: int):
         """Gives a record a slot of the new table."""
         self.new.setdefault(bucket, {})[slot] = record.number
