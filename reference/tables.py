@@ -302,12 +302,13 @@ class Tables:
         """The rounds of a search; raises StopIteration if it needs more words."""
         in_tried = some_tried and (not some_new or next(words) % 2 == 1)
         table = self.tried if in_tried else self.new
-        buckets = places.TRIED_BUCKETS if in_tried else places.NEW_BUCKETS
+        low_bits = (places.TRIED_BUCKETS if in_tried else places.NEW_BUCKETS) - 1
         factor = ONE
         for bucket_word, slot_word in zip(words, words):
-            slots = table.get(bucket_word % buckets)
-            if not slots:
+            bucket = bucket_word & low_bits
+            if bucket not in table or not table[bucket]:
                 continue
+            slots = table[bucket]
             start = slot_word % places.SLOTS
             in_turn = sorted(slots, key=lambda slot: (slot - start) % places.SLOTS)
             found = (self.records[slots[slot]] for slot in in_turn)
