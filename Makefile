@@ -5,6 +5,7 @@
 #                 hour on four cores
 # make package    writes the crate for Rust as one package, at bin/package, and has cargo check it
 # make plain-lib  builds the library for C with cargo, at bin/lib
+# make sanitized-lib  the same with overflow checks and AddressSanitizer, for tools/lib_calls
 # make bench      builds with cargo the program that the scripts of bench/ take
 # make try        runs examples from the source, before anything is proved
 # make ci-try     runs those of diff and lookup alone
@@ -47,9 +48,9 @@ DIST := addrman-$(VERSION)-x86_64-linux
 # Where the toolchain has its part of the C library: the allocator that the library calls.
 KIT = $(shell dirname "$$(dirname "$$(readlink -f "$$(command -v rt)")")")
 
-.PHONY: all plain check proved package plain-lib plain-archive bench try ci-try demo examples flood page page-test endings \
-	mistakes packed test figures lib lib-test ci-lib-test ci-program-test archive install install-lib \
-	uninstall dist
+.PHONY: all plain check proved package plain-lib plain-archive sanitized-lib bench try ci-try demo examples \
+	flood page page-test endings mistakes packed test figures lib lib-test ci-lib-test ci-program-test \
+	archive install install-lib uninstall dist
 
 # Where cargo builds, below bin/.
 CARGO = cd bin/plain && cargo build --quiet --release --target-dir ../target
@@ -85,6 +86,13 @@ CARGO_LIBRARY := bin/target/release/libaddrman_c.a
 plain-archive:
 	$(MAKE) archive OBJECTS="--gc-sections --force-group-allocation $(CARGO_LIBRARY) $$(readelf -sW $(CARGO_LIBRARY) \
 		| sed -n 's/.* FUNC  *GLOBAL .* \(addrman_[a-z_0-9]*\)$$/-u \1/p' | tr '\n' ' ')"
+
+MACHINE := x86_64-unknown-linux-gnu
+sanitized-lib: plain
+	cd bin/plain && RUSTC_BOOTSTRAP=1 RUSTFLAGS=-Zsanitizer=address cargo build --quiet --profile checked \
+		--target $(MACHINE) --target-dir ../target-sanitizer -p addrman_c
+	$(MAKE) plain-archive CARGO_LIBRARY=bin/target-sanitizer/$(MACHINE)/checked/libaddrman_c.a \
+		SANITIZER=-fsanitize=address
 
 try:
 	tools/examples --try
@@ -176,13 +184,13 @@ archive:
 		--keep-section=.debug_frame --keep-section=.rela.debug_frame \
 		--redefine-sym free=wiping_free --redefine-sym realloc=wiping_realloc \
 		$(foreach it,$(CLOSES),--redefine-sym $(it)=proved_$(it)) bin/lib/proved.o
-	gcc -std=gnu99 -O2 -fPIC -Wall -Wextra -DADDRMAN_VERSION='"$(VERSION)"' -c -o bin/lib/edges.o \
+	gcc -std=gnu99 -O2 -fPIC $(SANITIZER) -Wall -Wextra -DADDRMAN_VERSION='"$(VERSION)"' -c -o bin/lib/edges.o \
 		bindings/edges.c
 	ld -r -o bin/lib/addrman.o bin/lib/proved.o bin/lib/edges.o
 	objcopy --wildcard --keep-global-symbol='addrman_*' bin/lib/addrman.o
 	rm -f bin/lib/libaddrman.a
 	ar rcs bin/lib/libaddrman.a bin/lib/addrman.o
-	gcc -shared -o bin/lib/libaddrman.so.1 -Wl,-soname,libaddrman.so.1 -Wl,-z,defs -Wl,-z,now \
+	gcc -shared $(SANITIZER) -o bin/lib/libaddrman.so.1 -Wl,-soname,libaddrman.so.1 -Wl,-z,defs -Wl,-z,now \
 		-Wl,-z,relro -Wl,--version-script=bindings/addrman.map bin/lib/addrman.o
 	ln -sf libaddrman.so.1 bin/lib/libaddrman.so
 	rm bin/lib/addrman.o bin/lib/proved.o bin/lib/edges.o

@@ -1,5 +1,7 @@
 """Lines of a log: how they are read, and their fields."""
 
+from functools import cache
+
 import addresses
 import text
 from folder import Stop
@@ -63,6 +65,7 @@ def number(maximum: int, minimum: int = 0):
     return reader(read, "number")
 
 
+@cache
 def one_of(*names: str):
     """The reader of a field that is one of some names."""
     return reader({name.encode(): name for name in names}.get, "word")

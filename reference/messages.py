@@ -36,10 +36,11 @@ class Reader:
 
     def take(self, count: int) -> bytes:
         """The next bytes."""
-        if count > self.left():
+        begin, end = self.position, self.position + count
+        if end > len(self.data):
             raise Fault("truncated")
-        self.position += count
-        return self.data[self.position - count:self.position]
+        self.position = end
+        return self.data[begin:end]
 
     def number(self, count: int, signed: bool = False) -> int:
         """A number of this many bytes, low byte first."""

@@ -1,5 +1,6 @@
 """The file peers.dat."""
 
+import struct
 from typing import NamedTuple
 
 import places
@@ -150,10 +151,9 @@ def saved(tables: Tables) -> PeersFile:
     new = [record for record in records if not record.tried]
     tried = [record for record in records if record.tried]
     index = {record.number: at for at, record in enumerate(new)}
-    buckets = [
-        [index[number] for _, number in sorted(tables.new.get(bucket, {}).items())]
-        for bucket in range(places.NEW_BUCKETS)
-    ]
+    buckets: list[list[int]] = [[] for _ in range(places.NEW_BUCKETS)]
+    for bucket, slots in tables.new.items():
+        buckets[bucket] = [index[number] for _, number in sorted(slots.items())]
     return PeersFile(tables.key, new, tried, buckets, asmap_sum_of(tables.asmap, tables.of_bits))
 
 
@@ -163,10 +163,8 @@ def written(file: PeersFile, start: bytes) -> bytes:
     for count in (len(file.new), len(file.tried), len(file.buckets) ^ FLIPPED_BIT):
         parts.append(count.to_bytes(4, "little"))
     parts += [written_record(record) for record in file.new + file.tried]
-    for indices in file.buckets:
-        parts.append(len(indices).to_bytes(4, "little"))
-        parts += [index.to_bytes(4, "little") for index in indices]
-    data = b"".join(parts) + file.sum
+    numbers = [number for indices in file.buckets for number in (len(indices), *indices)]
+    data = b"".join(parts) + struct.pack(f"<{len(numbers)}I", *numbers) + file.sum
     return data + places.double_sha256(data)
 
 

@@ -160,13 +160,16 @@ def path(marks: list[int], mark: int, side: int) -> str:
     """The rectangles of a mark: each row of a tile of 8 x 8 marks, and each longest run in it."""
     parts = []
     for row in range(len(marks) // 8):
+        dots = marks[8 * row:8 * row + 8]
+        if mark not in dots:
+            continue
         left, top = 9 * (row // 8 % side), 9 * (row // 8 // side) + row % 8
         at = 0
         while at < 8:
             width = 1
-            while at + width < 8 and marks[8 * row + at + width] == marks[8 * row + at]:
+            while at + width < 8 and dots[at + width] == dots[at]:
                 width += 1
-            if marks[8 * row + at] == mark:
+            if dots[at] == mark:
                 parts.append(f"M{left + at} {top}h{width}v1h-{width}z")
             at += width
     return "".join(parts)
@@ -201,7 +204,7 @@ def maps(marks: list[int], names: list[str], over: list[int] = (), mark: int = 0
 def titles(marks: list[int]) -> str:
     """How full the tables are."""
     new = NEW_BUCKETS * SLOTS
-    used = [sum(mark != 0 for mark in part) for part in (marks[:new], marks[new:])]
+    used = [len(part) - part.count(0) for part in (marks[:new], marks[new:])]
     return (
         f'<text x="56" y="88" class="b">New table: {used[0]} of 65536 slots are occupied</text>\n'
         f'<text x="694" y="88" class="b">Tried table: {used[1]} of 16384 slots are occupied</text>\n'
@@ -237,8 +240,7 @@ def age(newest: int, time: int) -> int:
 
 
 def classes(tables: Tables, by: str) -> list[tuple[object, str] | None]:
-    """The class of the record in each slot and its name, by rising bucket, first those of the new
-    table. Classes are in order as the bytes that they are compared by."""
+    """The class of the record in each slot and its name. Classes are in order as the bytes that they are compared by."""
     newest = max((record.time for record in tables.records.values()), default=0)
 
     @cache
@@ -253,14 +255,12 @@ def classes(tables: Tables, by: str) -> list[tuple[object, str] | None]:
         own = age(newest, record.time)
         return own, (*(words for words, _ in AGES), OLDEST)[own]
 
-    def at(record: Record | None) -> tuple[object, str] | None:
-        return None if record is None else of(record)
+    return [None if record is None else of(record) for record in records_of(tables)]
 
-    return [
-        at(tables.occupant(table, bucket, slot))
-        for table, buckets in ((tables.new, NEW_BUCKETS), (tables.tried, TRIED_BUCKETS))
-        for bucket in range(buckets) for slot in range(SLOTS)
-    ]
+
+def records_of(tables: Tables) -> list[Record | None]:
+    """The record in each slot, by rising bucket, first those of the new table."""
+    return tables.occupants(tables.new, NEW_BUCKETS) + tables.occupants(tables.tried, TRIED_BUCKETS)
 
 
 def network(record: Record) -> tuple[int, str]:
@@ -280,12 +280,7 @@ def picture_of_sets(tables: Tables, marked: list, chain: str, core: bool) -> str
         number = tables.asmap.number_of(address)
         return next((n for n, own in enumerate(marked, 1) if bans.has(own, address, number)), 7)
 
-    records = [
-        tables.occupant(table, bucket, slot)
-        for table, buckets in ((tables.new, NEW_BUCKETS), (tables.tried, TRIED_BUCKETS))
-        for bucket in range(buckets) for slot in range(SLOTS)
-    ]
-    marks = [0 if record is None else mark_of(record.peer.address) for record in records]
+    marks = [0 if record is None else mark_of(record.peer.address) for record in records_of(tables)]
     names = [bans.set_text(own) for own in marked]
     out = [
         head(SETS_MEANING, SETS_TITLE, facts(tables, chain, core)), titles(marks),

@@ -138,6 +138,14 @@ class Tables:
         number = table.get(bucket, {}).get(slot)
         return None if number is None else self.records[number]
 
+    def occupants(self, table: dict[int, dict[int, int]], buckets: int) -> list[Record | None]:
+        """The record at each slot of a table with so many buckets."""
+        found: list[Record | None] = []
+        for bucket in range(buckets):
+            slots = table.get(bucket, {})
+            found += [self.occupant(table, bucket, slot) for slot in range(places.SLOTS)] if slots else [None] * places.SLOTS
+        return found
+
     def occupy(self, record: Record, bucket: int, slot: int):
         """Gives a record a slot of the new table."""
         self.new.setdefault(bucket, {})[slot] = record.number
@@ -294,12 +302,13 @@ class Tables:
         """The rounds of a search; raises StopIteration if it needs more words."""
         in_tried = some_tried and (not some_new or next(words) % 2 == 1)
         table = self.tried if in_tried else self.new
-        buckets = places.TRIED_BUCKETS if in_tried else places.NEW_BUCKETS
+        low_bits = (places.TRIED_BUCKETS if in_tried else places.NEW_BUCKETS) - 1
         factor = ONE
         for bucket_word, slot_word in zip(words, words):
-            slots = table.get(bucket_word % buckets)
-            if not slots:
+            bucket = bucket_word & low_bits
+            if bucket not in table or not table[bucket]:
                 continue
+            slots = table[bucket]
             start = slot_word % places.SLOTS
             in_turn = sorted(slots, key=lambda slot: (slot - start) % places.SLOTS)
             found = (self.records[slots[slot]] for slot in in_turn)
