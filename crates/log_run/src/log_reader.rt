@@ -49,7 +49,8 @@ impl LogReader {
     ghost use Rattle.host_io.specs.Faults.{Rose};
     ghost use Rattle.host_io.specs.Reading.{MovesBytes};
     ghost use Rattle.log_run.specs.Log.{HasNoFeed, IsAtEnd};
-    ghost use Rattle.log_run.specs.Reading.{HasMore, HasNoLine, HasRead, IsLine, IsLong, WaitsForMore};
+    ghost use Rattle.log_run.specs.Reading.{HasMore, HasNoLine, HasRead, IsLine, IsLong};
+    ghost use Rattle.log_run.specs.Reading.{WaitsForMore};
 
     /// Makes a reader of a log of which nothing was read. Takes no memory.
     pub fn make(alloc: Global) -> LogReader
