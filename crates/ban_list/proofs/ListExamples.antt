@@ -7,8 +7,7 @@ use Rattle.net_addr.specs.Same.{same_address}
 use Rattle.net_addr.specs.declared.net.Net.TheVariants.{Ipv4}
 use Rattle.serde_json.specs.Data.{Data, object, member, no_members, number, unsigned, negative, boolean, string, null}
 use Rattle.ban_list.specs.Bans.{put, stops, after_ban, ban_of, current_by, Outcome}
-use Rattle.ban_list.specs.BanFile.{ban_data_by, ban_members, merged, time_at}
-use Rattle.ban_list.specs.NewFile.{element_data, joined, members_at}
+use Rattle.ban_list.specs.BanFile.{merged, time_at}
 use Rattle.ban_list.specs.declared.ban.BanRule.TheVariants.{Labels, Names}
 use Rattle.ban_list.specs.declared.subnet.Subnet.{Subnet}
 use Rattle.ban_list.specs.declared.ban.Ban.{Ban}
@@ -81,19 +80,3 @@ below_zero = refl
 not_a_number : at (boolean true) ≡ None
 not_a_number = refl
 
--- a ban without an old element has its four members
-only_four : (ban : Ban) → element_data [] ban ≡ ban_data_by Names ban
-only_four ban = refl
-
--- what an old element has besides the four stays, each in its place by name
-besides : (text : List ℕ) → joined (member (codes "a") null (member (codes "banned_until") (number (unsigned 1)) (member (codes "zone") (boolean true) no_members))) (ban_members text (ban_of small 5 9))
-    ≡ member (codes "a") null (member (codes "address") (string text) (member (codes "ban_created") (number (unsigned 5)) (member (codes "banned_until") (number (unsigned 9))
-    (member (codes "version") (number (unsigned 1)) (member (codes "zone") (boolean true) no_members)))))
-besides text = refl
-
--- of two elements of one subnet each has a part in what stays, and of two members of one name the later one
-both : members_at small ((small, member (codes "a") (number (unsigned 1)) (member (codes "b") (number (unsigned 2)) no_members)) ∷ (nine, member (codes "z") null no_members)
-    ∷ (small, member (codes "b") (number (unsigned 3)) (member (codes "c") null no_members)) ∷ [])
-    ≡ member (codes "a") (number (unsigned 1)) (member (codes "b") (number (unsigned 3)) (member (codes "c") null no_members))
-unfolding same_address
-both = refl

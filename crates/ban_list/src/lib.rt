@@ -20,6 +20,7 @@ mod ban;
 mod bans;
 mod fault;
 mod law;
+mod named_text;
 mod read_file;
 mod subnet;
 mod subnet_names;
