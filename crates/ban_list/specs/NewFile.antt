@@ -93,13 +93,17 @@ with_list list (m ∷ ms) =
     if is_list_name m.0 then (codes "banned_nets", list) ∷ besides is_list_name ms
     else m ∷ with_list list ms
 
--- the members of a ban
-abbrev pub own_members : Ban → List Member
-own_members ban =
-    (codes "address", string (subnet_name ban.subnet))
+-- the members of a ban, with this text of its subnet
+abbrev pub own_members_with : List ℕ → Ban → List Member
+own_members_with text ban =
+    (codes "address", string text)
     ∷ (codes "ban_created", number (decimal ban.created))
     ∷ (codes "banned_until", number (decimal ban.until))
     ∷ (codes "version", number (decimal 1)) ∷ []
+
+-- the members of a ban
+abbrev pub own_members : Ban → List Member
+own_members ban = own_members_with (subnet_name ban.subnet) ban
 
 -- the members of an object, none of any other value
 abbrev pub members_list : Members → List Member

@@ -1,11 +1,23 @@
-use crate::write_by_name::{Element, Found, found_of, members_of};
-use crate::{Ban, Memory, subnet_name};
+ghost use Rattle.std.specs.Prelude.{◌≡◌, ◌∷◌, ◌++◌, All, IfOk, OnOk, List, length, map, flat_map, codes};
+ghost use Rattle.json.specs.Json.{Json};
+ghost use Rattle.json.specs.Print.{print};
+ghost use Rattle.json.specs.Tree.{HasNumbers, json_tokens};
+ghost use Rattle.json.specs.Value.{value_view};
+ghost use Rattle.ban_list.specs.NewFile.{besides, is_ban_name, is_list_name, named_tree, own_members_with, with_list};
+ghost use Rattle.ban_list.specs.OldFile.{IsAppended, IsStoredAt, ban_tokens, elements_with, has_name, item_tokens, member_tokens, member_view, number_member, other_tokens, places_at, places_of, tokens_of};
+
+use crate::write_by_name::members_of;
+use crate::{Ban, Memory, Subnet, subnet_name};
 use host_io::Bytes;
+use indexmap::IndexMap;
 use json::{Value as Tree, Writer};
 use std::alloc::Global;
 
+/// The positions of the elements that ban a subnet, in their order.
+type Places = IndexMap<Subnet, Vec<usize>>;
+
 /// An object of the file, by the members that are written anew.
-#[derive(Clone, Copy)]
+#[derive(Clone, Copy, Drop)]
 enum Part {
     File,
     Ban,
@@ -13,7 +25,9 @@ enum Part {
 
 impl Part {
     /// Returns `true` if the members of a name are written anew.
-    fn has(self, name: &str) -> bool {
+    fn has(self, name: &str) -> bool
+        ensures { result ≡ has_name self name.now }
+    {
         match self {
             Part::File => name == "banned_nets",
             Part::Ban => is_ban_name(name),
@@ -22,7 +36,9 @@ impl Part {
 }
 
 /// Returns `true` if a ban has a member of this name.
-fn is_ban_name(name: &str) -> bool {
+fn is_ban_name(name: &str) -> bool
+    ensures { result ≡ is_ban_name name.now }
+{
     name == "address" || name == "ban_created" || name == "banned_until" || name == "version"
 }
 
@@ -31,38 +47,87 @@ fn is_ban_name(name: &str) -> bool {
 pub(crate) fn write_named(
     alloc: Global,
     members: &[(&str, Tree<'_>)],
-    elements: &[Element<'_, '_>],
+    items: &[Tree<'_>],
+    subnets: &[Option<Subnet>],
     bans: &[Ban],
-) -> Result<Bytes, Memory> {
-    let found = found_of(alloc, elements)?;
+) -> Result<Bytes, Memory>
+    requires members { All (λ m. HasNumbers (value_view m.1)) members.now }
+    requires items { All (λ j. HasNumbers (value_view j)) items.now }
+    requires subnets { length items.now ≡ length subnets.now }
+    ensures { IfOk result (λ bytes. bytes ≡ print (json_tokens (named_tree
+        (map member_view members.now) (elements_with (map value_view items.now) subnets.now)
+        bans.now))) }
+{
+    let places = places_of(alloc, subnets)?;
     let mut writer = Writer::new(Vec::new(alloc));
     writer.begin_object()?;
     let rest = put_before(&mut writer, members)?;
     writer.key("banned_nets")?;
-    put_list(alloc, &mut writer, &found, elements, bans)?;
+    writer.begin_array()?;
+    put_bans(alloc, &mut writer, items, &places, bans)?;
+    put_others(&mut writer, items, subnets)?;
+    writer.end_array()?;
     put_besides(&mut writer, Part::File, rest)?;
     writer.end_object()?;
     Ok(Bytes::of(writer.into_inner()))
+}
+
+/// Returns the positions of the elements that ban each subnet.
+fn places_of(alloc: Global, subnets: &[Option<Subnet>]) -> Result<Places, Memory>
+    ensures { IfOk result (λ places. (subnet : Subnet)
+        → places_at places.entries subnet ≡ places_of subnet subnets.now) }
+{
+    let mut places = IndexMap::new(alloc);
+    for i in 0..subnets.len() {
+        if let Some(subnet) = subnets[i] {
+            store(alloc, subnet, i, &mut places)?;
+        }
+    }
+    Ok(places)
+}
+
+/// Stores the position of an element after those that ban its subnet.
+fn store(alloc: Global, subnet: Subnet, place: usize, places: &mut Places) -> Result<(), Memory>
+    ensures { OnOk result (IsStoredAt subnet place places.old.entries places.new.entries) }
+{
+    let mut list = match places.swap_remove(&subnet) {
+        Some(list) => list,
+        None => Vec::new(alloc),
+    };
+    list.push(place)?;
+    places.insert(subnet, list)?;
+    Ok(())
 }
 
 /// Writes the members before the first one that is a list, and returns those from there on.
 fn put_before<'m, 'a>(
     writer: &mut Writer,
     members: &'m [(&'a str, Tree<'a>)],
-) -> Result<&'m [(&'a str, Tree<'a>)], Memory> {
-    let mut rest = members;
-    while let [member, after @ ..] = rest {
+) -> Result<&'m [(&'a str, Tree<'a>)], Memory>
+    requires { All (λ m. HasNumbers (value_view m.1)) members.now }
+    ensures numbers { IfOk result (λ rest. All (λ m. HasNumbers (value_view m.1)) rest.now) }
+    ensures tokens { IfOk result (λ rest. (list : Json)
+        → writer.new.tokens ++ tokens_of ((codes "banned_nets", list)
+        ∷ besides is_list_name (map member_view rest.now))
+        ≡ writer.old.tokens ++ tokens_of (with_list list (map member_view members.now))) }
+    ensures before { OnOk result (writer.new.before ≡ writer.old.before) }
+{
+    for i in 0..members.len() {
+        let member = &members[i];
         if Part::File.has(member.0) {
-            return Ok(rest);
+            return Ok(&members[i..]);
         }
         put_member(writer, member.0, &member.1)?;
-        rest = after;
     }
-    Ok(rest)
+    Ok(&members[members.len()..])
 }
 
 /// Writes a member.
-fn put_member(writer: &mut Writer, name: &str, tree: &Tree<'_>) -> Result<(), Memory> {
+fn put_member(writer: &mut Writer, name: &str, tree: &Tree<'_>) -> Result<(), Memory>
+    requires { HasNumbers (value_view tree.now) }
+    ensures { OnOk result (IsAppended writer.old writer.new
+        (member_tokens (name.now, value_view tree.now))) }
+{
     writer.key(name)?;
     writer.value(tree)?;
     Ok(())
@@ -73,7 +138,11 @@ fn put_besides(
     writer: &mut Writer,
     part: Part,
     members: &[(&str, Tree<'_>)],
-) -> Result<(), Memory> {
+) -> Result<(), Memory>
+    requires { All (λ m. HasNumbers (value_view m.1)) members.now }
+    ensures { OnOk result (IsAppended writer.old writer.new
+        (tokens_of (besides (has_name part) (map member_view members.now)))) }
+{
     for member in members {
         if !part.has(member.0) {
             put_member(writer, member.0, &member.1)?;
@@ -82,28 +151,38 @@ fn put_besides(
     Ok(())
 }
 
-/// Writes the new list.
-fn put_list(
+/// Writes the elements of the bans.
+fn put_bans(
     alloc: Global,
     writer: &mut Writer,
-    found: &Found<'_, '_>,
-    elements: &[Element<'_, '_>],
+    items: &[Tree<'_>],
+    places: &Places,
     bans: &[Ban],
-) -> Result<(), Memory> {
-    writer.begin_array()?;
+) -> Result<(), Memory>
+    requires { All (λ j. HasNumbers (value_view j)) items.now }
+    ensures { OnOk result (IsAppended writer.old writer.new
+        (flat_map (ban_tokens (map value_view items.now) places.now.entries) bans.now)) }
+{
     for ban in bans {
-        put_ban(alloc, writer, found, ban)?;
+        put_ban(alloc, writer, items, places, ban)?;
     }
-    put_others(writer, elements)?;
-    writer.end_array()?;
     Ok(())
 }
 
 /// Writes the elements that are no bans.
-fn put_others(writer: &mut Writer, elements: &[Element<'_, '_>]) -> Result<(), Memory> {
-    for element in elements {
-        if element.subnet.is_none() {
-            writer.value(element.tree)?;
+fn put_others(
+    writer: &mut Writer,
+    items: &[Tree<'_>],
+    subnets: &[Option<Subnet>],
+) -> Result<(), Memory>
+    requires items { All (λ j. HasNumbers (value_view j)) items.now }
+    requires subnets { length items.now ≡ length subnets.now }
+    ensures { OnOk result (IsAppended writer.old writer.new
+        (flat_map other_tokens (elements_with (map value_view items.now) subnets.now))) }
+{
+    for i in 0..subnets.len() {
+        if subnets[i].is_none() {
+            writer.value(&items[i])?;
         }
     }
     Ok(())
@@ -113,41 +192,71 @@ fn put_others(writer: &mut Writer, elements: &[Element<'_, '_>]) -> Result<(), M
 fn put_ban(
     alloc: Global,
     writer: &mut Writer,
-    found: &Found<'_, '_>,
+    items: &[Tree<'_>],
+    places: &Places,
     ban: &Ban,
-) -> Result<(), Memory> {
+) -> Result<(), Memory>
+    requires { All (λ j. HasNumbers (value_view j)) items.now }
+    ensures { OnOk result (IsAppended writer.old writer.new
+        (ban_tokens (map value_view items.now) places.now.entries ban.now)) }
+{
     let name = subnet_name(alloc, &ban.subnet)?;
     writer.begin_object()?;
     put_own(writer, name.as_str(), ban)?;
-    if let Some(trees) = found.get(&ban.subnet) {
-        put_all_besides(writer, trees.as_slice())?;
+    if let Some(list) = places.get(&ban.subnet) {
+        put_old(writer, items, list.as_slice())?;
     }
     writer.end_object()?;
     Ok(())
 }
 
 /// Writes the members of a ban.
-fn put_own(writer: &mut Writer, name: &str, ban: &Ban) -> Result<(), Memory> {
+fn put_own(writer: &mut Writer, name: &str, ban: &Ban) -> Result<(), Memory>
+    ensures { OnOk result (IsAppended writer.old writer.new
+        (tokens_of (own_members_with name.now ban.now))) }
+{
+    let created = u64::from(ban.created);
+    let until = u64::from(ban.until);
     writer.key("address")?;
     writer.string(name)?;
-    put_number(writer, "ban_created", u64::from(ban.created))?;
-    put_number(writer, "banned_until", u64::from(ban.until))?;
+    put_number(writer, "ban_created", created)?;
+    put_number(writer, "banned_until", until)?;
     put_number(writer, "version", 1)
 }
 
 /// Writes a member that is a number.
-fn put_number(writer: &mut Writer, name: &str, number: u64) -> Result<(), Memory> {
+fn put_number(writer: &mut Writer, name: &str, number: u64) -> Result<(), Memory>
+    ensures { OnOk result (IsAppended writer.old writer.new
+        (member_tokens (number_member name.now number))) }
+{
     writer.key(name)?;
     writer.u64(number)?;
     Ok(())
 }
 
-/// Writes what elements have besides the members of their bans.
-fn put_all_besides(writer: &mut Writer, trees: &[&Tree<'_>]) -> Result<(), Memory> {
-    for tree in trees {
-        if let Some(members) = members_of(tree) {
-            put_besides(writer, Part::Ban, members)?;
-        }
+/// Writes what the elements at these positions have besides the members of their bans.
+fn put_old(writer: &mut Writer, items: &[Tree<'_>], places: &[usize]) -> Result<(), Memory>
+    requires { All (λ j. HasNumbers (value_view j)) items.now }
+    ensures { OnOk result (IsAppended writer.old writer.new
+        (flat_map (item_tokens (map value_view items.now)) places.now)) }
+{
+    for place in places {
+        put_at(writer, items, *place)?;
     }
     Ok(())
+}
+
+/// Writes what the element at a position has besides the members of its ban.
+fn put_at(writer: &mut Writer, items: &[Tree<'_>], place: usize) -> Result<(), Memory>
+    requires { All (λ j. HasNumbers (value_view j)) items.now }
+    ensures { OnOk result (IsAppended writer.old writer.new
+        (item_tokens (map value_view items.now) place)) }
+{
+    if place >= items.len() {
+        return Ok(());
+    }
+    match members_of(&items[place]) {
+        Some(members) => put_besides(writer, Part::Ban, members),
+        None => Ok(()),
+    }
 }

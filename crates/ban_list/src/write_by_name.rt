@@ -1,27 +1,18 @@
-ghost use Rattle.std.specs.Prelude.{◌≡◌, IfOk};
+ghost use Rattle.std.specs.Prelude.{◌≡◌, IfOk, IfSome, map, option_map};
 ghost use Rattle.std.specs.List.Sorted.{IsPermutation, IsSortedBy};
-ghost use Rattle.ban_list.specs.NewFile.{IsWritten, comes_before, subnet_cmp};
+ghost use Rattle.json.specs.Value.{value_view};
+ghost use Rattle.serde_json.specs.View.{view};
+ghost use Rattle.ban_list.specs.NewFile.{IsNamedFile, IsWritten, comes_before, members_in, subnet_cmp};
+ghost use Rattle.ban_list.specs.OldFile.{AreSubnets, IsNamedOver, IsSubnetOf, list_in, member_view};
 
 use crate::named_text::write_named;
 use crate::read_file::{element_of, elements_of, parse};
 use crate::{Ban, BanRule, Bans, Memory, Subnet, write_bans};
 use host_io::Bytes;
-use indexmap::IndexMap;
 use json::{Scratch, Value as Tree};
 use serde_json::Value;
 use std::alloc::Global;
 use std::cmp::Ordering;
-
-/// An element of the old list as it is in the text, and the subnet that it bans, unless it is no
-/// ban.
-#[derive(Drop)]
-pub(crate) struct Element<'t, 'a> {
-    pub(crate) tree: &'t Tree<'a>,
-    pub(crate) subnet: Option<Subnet>,
-}
-
-/// The elements that ban each subnet, in the order of the old list.
-pub(crate) type Found<'t, 'a> = IndexMap<Subnet, Vec<&'t Tree<'a>>>;
 
 /// Writes a list of bans by a rule. `old` is the file that the list was read from, if there was
 /// one; for bytes that are no list's file the answer is `Memory`.
@@ -40,16 +31,20 @@ pub fn write_bans_by(
 }
 
 /// Writes a list of bans as Bitcoin Core does, into what the old file has besides its bans.
-fn write_by_name(alloc: Global, old: &Option<Bytes>, bans: &Bans) -> Result<Bytes, Memory> {
+fn write_by_name(alloc: Global, old: &Option<Bytes>, bans: &Bans) -> Result<Bytes, Memory>
+    ensures { IfOk result (IsNamedFile old.now bans.now) }
+{
     let list = sorted_of(alloc, bans.bans())?;
     match old {
         Some(bytes) => write_over(alloc, bytes.items(), list.as_slice()),
-        None => write_named(alloc, &[], &[], list.as_slice()),
+        None => write_named(alloc, &[], &[], &[], list.as_slice()),
     }
 }
 
 /// Writes sorted bans into what an old file has besides its own.
-fn write_over(alloc: Global, bytes: &[u8], bans: &[Ban]) -> Result<Bytes, Memory> {
+fn write_over(alloc: Global, bytes: &[u8], bans: &[Ban]) -> Result<Bytes, Memory>
+    ensures { IfOk result (IsNamedOver bytes.now bans.now) }
+{
     let value = match parse(alloc, bytes) {
         Ok(value) => value,
         Err(_) => return Err(Memory),
@@ -57,6 +52,7 @@ fn write_over(alloc: Global, bytes: &[u8], bans: &[Ban]) -> Result<Bytes, Memory
     let Some(elements) = elements_of(&value) else {
         return Err(Memory);
     };
+    let subnets = subnets_of(alloc, elements)?;
     let mut scratch = Scratch::new(alloc);
     let tree = match Tree::from_slice(alloc, bytes, &mut scratch) {
         Ok(tree) => tree,
@@ -68,12 +64,35 @@ fn write_over(alloc: Global, bytes: &[u8], bans: &[Ban]) -> Result<Bytes, Memory
     let Some(items) = items_of(&tree) else {
         return Err(Memory);
     };
-    let elements = old_elements(alloc, elements, items)?;
-    write_named(alloc, members, elements.as_slice(), bans)
+    write_named(alloc, members, items, subnets.as_slice(), bans)
+}
+
+/// Returns the subnet that each element bans, or `None` for an element that is no ban.
+fn subnets_of(alloc: Global, elements: &[Value]) -> Result<Vec<Option<Subnet>>, Memory>
+    ensures { IfOk result (λ subnets. AreSubnets (map view elements.now) subnets.items) }
+{
+    let mut subnets = Vec::new(alloc);
+    for element in elements {
+        subnets.push(subnet_of(element))?;
+    }
+    Ok(subnets)
+}
+
+/// Returns the subnet that an element bans.
+fn subnet_of(element: &Value) -> Option<Subnet>
+    ensures { IsSubnetOf (view element.now) result }
+{
+    match element_of(BanRule::Names, element) {
+        Some(ban) => Some(ban.subnet),
+        None => None,
+    }
 }
 
 /// Returns the members of an object.
-pub(crate) fn members_of<'t, 'a>(tree: &'t Tree<'a>) -> Option<&'t [(&'a str, Tree<'a>)]> {
+pub(crate) fn members_of<'t, 'a>(tree: &'t Tree<'a>) -> Option<&'t [(&'a str, Tree<'a>)]>
+    ensures found { IfSome result (λ members. map member_view members.now
+        ≡ members_in (value_view tree.now)) }
+{
     match tree {
         Tree::Object(members) => Some(members.as_slice()),
         _ => None,
@@ -81,69 +100,14 @@ pub(crate) fn members_of<'t, 'a>(tree: &'t Tree<'a>) -> Option<&'t [(&'a str, Tr
 }
 
 /// Returns the elements of the list of a file.
-fn items_of<'t, 'a>(tree: &'t Tree<'a>) -> Option<&'t [Tree<'a>]> {
+fn items_of<'t, 'a>(tree: &'t Tree<'a>) -> Option<&'t [Tree<'a>]>
+    ensures { option_map (λ items. map value_view items.now) result
+        ≡ list_in (value_view tree.now) }
+{
     match tree.get("banned_nets")? {
         Tree::Array(items) => Some(items.as_slice()),
         _ => None,
     }
-}
-
-/// Returns the elements of the old list, each with the subnet that it bans: `elements` says which,
-/// and `items` are the same elements as they are in the text.
-fn old_elements<'t, 'a>(
-    alloc: Global,
-    elements: &[Value],
-    items: &'t [Tree<'a>],
-) -> Result<Vec<Element<'t, 'a>>, Memory> {
-    let mut found = Vec::new(alloc);
-    let mut rest = items;
-    for element in elements {
-        let [tree, after @ ..] = rest else {
-            return Err(Memory);
-        };
-        let subnet = subnet_of(element);
-        found.push(Element { tree, subnet })?;
-        rest = after;
-    }
-    Ok(found)
-}
-
-/// Returns the subnet that an element bans.
-fn subnet_of(element: &Value) -> Option<Subnet> {
-    match element_of(BanRule::Names, element) {
-        Some(ban) => Some(ban.subnet),
-        None => None,
-    }
-}
-
-/// Returns the elements that ban each subnet.
-pub(crate) fn found_of<'t, 'a>(
-    alloc: Global,
-    elements: &[Element<'t, 'a>],
-) -> Result<Found<'t, 'a>, Memory> {
-    let mut found = IndexMap::new(alloc);
-    for element in elements {
-        if let Some(subnet) = element.subnet {
-            store(alloc, subnet, element.tree, &mut found)?;
-        }
-    }
-    Ok(found)
-}
-
-/// Stores an element after those that ban its subnet.
-fn store<'t, 'a>(
-    alloc: Global,
-    subnet: Subnet,
-    tree: &'t Tree<'a>,
-    found: &mut Found<'t, 'a>,
-) -> Result<(), Memory> {
-    let mut trees = match found.swap_remove(&subnet) {
-        Some(trees) => trees,
-        None => Vec::new(alloc),
-    };
-    trees.push(tree)?;
-    found.insert(subnet, trees)?;
-    Ok(())
 }
 
 /// Compares two bans by the networks, addresses and lengths of their subnets.
