@@ -10,5 +10,6 @@ pub mod MeaningLaws
 pub mod Merging
 pub mod Named
 mod OneName
+pub mod NamedLaws
 pub mod NewLaws
 pub mod ProperTexts

@@ -84,11 +84,11 @@ list_of (Some places) = places.items
 abbrev pub places_at : List (Subnet × Vec ℕ Global) → Subnet → List ℕ
 places_at stored subnet = list_of (lookup (same_subnet subnet) stored)
 
--- one position more was stored
-abbrev pub IsStoredAt : Subnet → ℕ → List (Subnet × Vec ℕ Global) → List (Subnet × Vec ℕ Global) →
-    Type 0
-IsStoredAt subnet place old new = (other : Subnet) →
-    places_at new other ≡ places_at old other ++ (if same_subnet subnet other then place ∷ [] else [])
+-- one position more was stored, under the subnet that an element bans
+abbrev pub IsStoredAt : Option Subnet → ℕ → List (Subnet × Vec ℕ Global) →
+    List (Subnet × Vec ℕ Global) → Type 0
+IsStoredAt own place old new = (subnet : Subnet) →
+    places_at new subnet ≡ places_at old subnet ++ (if bans_it subnet own then place ∷ [] else [])
 
 -- ---- the tokens of what is written
 
@@ -107,8 +107,21 @@ abbrev pub has_name : Part → List ℕ → Bool
 has_name part.File name = is_list_name name
 has_name part.Ban name = is_ban_name name
 
+-- a member, unless it is written anew
+abbrev pub beside_tokens : Part → Member → List Token
+beside_tokens part m = if has_name part m.0 then [] else member_tokens m
+
+abbrev pub besides_tokens : {A : Type 0} → Part → Bor (List ℕ) × Value A → List Token
+besides_tokens part m = beside_tokens part (member_view m)
+
 abbrev pub number_member : List ℕ → ℕ → Member
 number_member name n = (name, number (decimal n))
+
+-- the members of a ban that are numbers
+abbrev pub number_members : ℕ → ℕ → List Member
+number_members created until =
+    number_member (codes "ban_created") created ∷ number_member (codes "banned_until") until
+    ∷ number_member (codes "version") 1 ∷ []
 
 -- what the element at a position has besides the members of its ban
 abbrev pub item_tokens : List Json → ℕ → List Token
@@ -119,8 +132,8 @@ item_tokens items place =
 -- the element of a ban
 abbrev pub ban_tokens : List Json → List (Subnet × Vec ℕ Global) → Ban → List Token
 ban_tokens items stored ban =
-    Token.begin_object ∷ tokens_of (own_members_with (subnet_name ban.subnet) ban)
-    ++ flat_map (item_tokens items) (places_at stored ban.subnet) ++ Token.end_object ∷ []
+    (Token.begin_object ∷ []) ++ (tokens_of (own_members_with (subnet_name ban.subnet) ban)
+    ++ (flat_map (item_tokens items) (places_at stored ban.subnet) ++ Token.end_object ∷ []))
 
 -- an element that is no ban
 abbrev pub other_tokens : Element → List Token

@@ -3,8 +3,8 @@ ghost use Rattle.json.specs.Json.{Json};
 ghost use Rattle.json.specs.Print.{print};
 ghost use Rattle.json.specs.Tree.{HasNumbers, json_tokens};
 ghost use Rattle.json.specs.Value.{value_view};
-ghost use Rattle.ban_list.specs.NewFile.{besides, is_ban_name, is_list_name, named_tree, own_members_with, with_list};
-ghost use Rattle.ban_list.specs.OldFile.{IsAppended, IsStoredAt, ban_tokens, elements_with, has_name, item_tokens, member_tokens, member_view, number_member, other_tokens, places_at, places_of, tokens_of};
+ghost use Rattle.ban_list.specs.NewFile.{besides, is_ban_name, is_list_name, list_tree, named_tree, own_members_with, with_list};
+ghost use Rattle.ban_list.specs.OldFile.{IsAppended, IsStoredAt, ban_tokens, beside_tokens, besides_tokens, elements_with, has_name, item_tokens, list_of, member_tokens, member_view, number_member, number_members, other_tokens, places_at, places_of, tokens_of};
 
 use crate::write_by_name::members_of;
 use crate::{Ban, Memory, Subnet, subnet_name};
@@ -60,16 +60,62 @@ pub(crate) fn write_named(
 {
     let places = places_of(alloc, subnets)?;
     let mut writer = Writer::new(Vec::new(alloc));
-    writer.begin_object()?;
-    let rest = put_before(&mut writer, members)?;
-    writer.key("banned_nets")?;
-    writer.begin_array()?;
-    put_bans(alloc, &mut writer, items, &places, bans)?;
-    put_others(&mut writer, items, subnets)?;
-    writer.end_array()?;
-    put_besides(&mut writer, Part::File, rest)?;
-    writer.end_object()?;
+    put_file(alloc, &mut writer, members, items, subnets, &places, bans)?;
     Ok(Bytes::of(writer.into_inner()))
+}
+
+/// Writes the object of the file.
+fn put_file(
+    alloc: Global,
+    writer: &mut Writer,
+    members: &[(&str, Tree<'_>)],
+    items: &[Tree<'_>],
+    subnets: &[Option<Subnet>],
+    places: &Places,
+    bans: &[Ban],
+) -> Result<(), Memory>
+    requires members { All (λ m. HasNumbers (value_view m.1)) members.now }
+    requires items { All (λ j. HasNumbers (value_view j)) items.now }
+    requires subnets { length items.now ≡ length subnets.now }
+    requires places { (subnet : Subnet)
+        → places_at places.now.entries subnet ≡ places_of subnet subnets.now }
+    ensures { OnOk result (IsAppended writer.old writer.new (json_tokens (named_tree
+        (map member_view members.now) (elements_with (map value_view items.now) subnets.now)
+        bans.now))) }
+{
+    writer.begin_object()?;
+    let rest = match put_before(writer, members) {
+        Ok(rest) => rest,
+        Err(error) => return Err(error),
+    };
+    writer.key("banned_nets")?;
+    put_list(alloc, writer, items, subnets, places, bans)?;
+    put_besides(writer, Part::File, rest)?;
+    writer.end_object()?;
+    Ok(())
+}
+
+/// Writes the new list.
+fn put_list(
+    alloc: Global,
+    writer: &mut Writer,
+    items: &[Tree<'_>],
+    subnets: &[Option<Subnet>],
+    places: &Places,
+    bans: &[Ban],
+) -> Result<(), Memory>
+    requires items { All (λ j. HasNumbers (value_view j)) items.now }
+    requires subnets { length items.now ≡ length subnets.now }
+    requires places { (subnet : Subnet)
+        → places_at places.now.entries subnet ≡ places_of subnet subnets.now }
+    ensures { OnOk result (IsAppended writer.old writer.new (json_tokens (list_tree
+        (elements_with (map value_view items.now) subnets.now) bans.now))) }
+{
+    writer.begin_array()?;
+    put_bans(alloc, writer, items, places, bans)?;
+    put_others(writer, items, subnets)?;
+    writer.end_array()?;
+    Ok(())
 }
 
 /// Returns the positions of the elements that ban each subnet.
@@ -79,24 +125,38 @@ fn places_of(alloc: Global, subnets: &[Option<Subnet>]) -> Result<Places, Memory
 {
     let mut places = IndexMap::new(alloc);
     for i in 0..subnets.len() {
-        if let Some(subnet) = subnets[i] {
-            store(alloc, subnet, i, &mut places)?;
-        }
+        store(alloc, subnets[i], i, &mut places)?;
     }
     Ok(places)
 }
 
-/// Stores the position of an element after those that ban its subnet.
-fn store(alloc: Global, subnet: Subnet, place: usize, places: &mut Places) -> Result<(), Memory>
+/// Stores the position of an element after those that ban its subnet, unless it is no ban.
+fn store(
+    alloc: Global,
+    subnet: Option<Subnet>,
+    place: usize,
+    places: &mut Places,
+) -> Result<(), Memory>
     ensures { OnOk result (IsStoredAt subnet place places.old.entries places.new.entries) }
 {
-    let mut list = match places.swap_remove(&subnet) {
-        Some(list) => list,
-        None => Vec::new(alloc),
+    let Some(subnet) = subnet else {
+        return Ok(());
     };
+    let before = places.swap_remove(&subnet);
+    let mut list = list_of(alloc, before);
     list.push(place)?;
     places.insert(subnet, list)?;
     Ok(())
+}
+
+/// Returns the list, or an empty one if there is none.
+fn list_of(alloc: Global, list: Option<Vec<usize>>) -> Vec<usize>
+    ensures { result.items ≡ list_of list }
+{
+    match list {
+        Some(list) => list,
+        None => Vec::new(alloc),
+    }
 }
 
 /// Writes the members before the first one that is a list, and returns those from there on.
@@ -141,14 +201,24 @@ fn put_besides(
 ) -> Result<(), Memory>
     requires { All (λ m. HasNumbers (value_view m.1)) members.now }
     ensures { OnOk result (IsAppended writer.old writer.new
-        (tokens_of (besides (has_name part) (map member_view members.now)))) }
+        (flat_map (besides_tokens part) members.now)) }
 {
     for member in members {
-        if !part.has(member.0) {
-            put_member(writer, member.0, &member.1)?;
-        }
+        put_beside(writer, part, member.0, &member.1)?;
     }
     Ok(())
+}
+
+/// Writes a member, unless it is written anew.
+fn put_beside(writer: &mut Writer, part: Part, name: &str, tree: &Tree<'_>) -> Result<(), Memory>
+    requires { HasNumbers (value_view tree.now) }
+    ensures { OnOk result (IsAppended writer.old writer.new
+        (beside_tokens part (name.now, value_view tree.now))) }
+{
+    if part.has(name) {
+        return Ok(());
+    }
+    put_member(writer, name, tree)
 }
 
 /// Writes the elements of the bans.
@@ -180,11 +250,22 @@ fn put_others(
     ensures { OnOk result (IsAppended writer.old writer.new
         (flat_map other_tokens (elements_with (map value_view items.now) subnets.now))) }
 {
-    for i in 0..subnets.len() {
-        if subnets[i].is_none() {
-            writer.value(&items[i])?;
-        }
+    for i in 0..items.len() {
+        put_other(writer, &items[i], subnets[i])?;
     }
+    Ok(())
+}
+
+/// Writes an element, unless it bans a subnet.
+fn put_other(writer: &mut Writer, tree: &Tree<'_>, subnet: Option<Subnet>) -> Result<(), Memory>
+    requires { HasNumbers (value_view tree.now) }
+    ensures { OnOk result (IsAppended writer.old writer.new
+        (other_tokens (value_view tree.now, subnet))) }
+{
+    if subnet.is_some() {
+        return Ok(());
+    }
+    writer.value(tree)?;
     Ok(())
 }
 
@@ -203,11 +284,27 @@ fn put_ban(
     let name = subnet_name(alloc, &ban.subnet)?;
     writer.begin_object()?;
     put_own(writer, name.as_str(), ban)?;
-    if let Some(list) = places.get(&ban.subnet) {
-        put_old(writer, items, list.as_slice())?;
-    }
+    put_found(writer, items, places, &ban.subnet)?;
     writer.end_object()?;
     Ok(())
+}
+
+/// Writes what the old elements of a subnet have besides the members of their bans.
+fn put_found(
+    writer: &mut Writer,
+    items: &[Tree<'_>],
+    places: &Places,
+    subnet: &Subnet,
+) -> Result<(), Memory>
+    requires { All (λ j. HasNumbers (value_view j)) items.now }
+    ensures { OnOk result (IsAppended writer.old writer.new
+        (flat_map (item_tokens (map value_view items.now))
+        (places_at places.now.entries subnet.now))) }
+{
+    match places.get(subnet) {
+        Some(list) => put_old(writer, items, list.as_slice()),
+        None => Ok(()),
+    }
 }
 
 /// Writes the members of a ban.
@@ -219,6 +316,14 @@ fn put_own(writer: &mut Writer, name: &str, ban: &Ban) -> Result<(), Memory>
     let until = u64::from(ban.until);
     writer.key("address")?;
     writer.string(name)?;
+    put_numbers(writer, created, until)
+}
+
+/// Writes the times of a ban, and the version of its element.
+fn put_numbers(writer: &mut Writer, created: u64, until: u64) -> Result<(), Memory>
+    ensures { OnOk result (IsAppended writer.old writer.new
+        (tokens_of (number_members created until))) }
+{
     put_number(writer, "ban_created", created)?;
     put_number(writer, "banned_until", until)?;
     put_number(writer, "version", 1)

@@ -1,8 +1,9 @@
-ghost use Rattle.std.specs.Prelude.{◌≡◌, IfOk, IfSome, map, option_map};
+ghost use Rattle.std.specs.Prelude.{◌≡◌, [], IfNone, IfOk, IfSome, map, option_map};
 ghost use Rattle.std.specs.List.Sorted.{IsPermutation, IsSortedBy};
+ghost use Rattle.json.specs.Json.{object};
 ghost use Rattle.json.specs.Value.{value_view};
 ghost use Rattle.serde_json.specs.View.{view};
-ghost use Rattle.ban_list.specs.NewFile.{IsNamedFile, IsWritten, comes_before, members_in, subnet_cmp};
+ghost use Rattle.ban_list.specs.NewFile.{IsNamedFile, IsWritten, comes_before, members_in, members_of, subnet_cmp};
 ghost use Rattle.ban_list.specs.OldFile.{AreSubnets, IsNamedOver, IsSubnetOf, list_in, member_view};
 
 use crate::named_text::write_named;
@@ -92,6 +93,9 @@ fn subnet_of(element: &Value) -> Option<Subnet>
 pub(crate) fn members_of<'t, 'a>(tree: &'t Tree<'a>) -> Option<&'t [(&'a str, Tree<'a>)]>
     ensures found { IfSome result (λ members. map member_view members.now
         ≡ members_in (value_view tree.now)) }
+    ensures object { IfSome result (λ members. value_view tree.now
+        ≡ object (members_of (map member_view members.now))) }
+    ensures none { IfNone result (members_in (value_view tree.now) ≡ []) }
 {
     match tree {
         Tree::Object(members) => Some(members.as_slice()),
