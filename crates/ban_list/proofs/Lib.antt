@@ -12,4 +12,5 @@ pub mod Named
 mod OneName
 pub mod NamedLaws
 pub mod NewLaws
+pub mod OldLaws
 pub mod ProperTexts

@@ -1,5 +1,5 @@
 -- The file that is written by the rule of Bitcoin Core, and the tokens of its parts.
-use Rattle.std.proofs.Common.{◌≡◌, ℕ, zero, suc, ◌+◌, ◌<◌, List, [], ◌∷◌, ◌++◌, length, map, take, drop, get_or, nat_lt, codes, All, Bool, true, false, cond, Option, Some, None, Vec, Global, refl, sym, ap, ◌∙◌, subst, arith}
+use Rattle.std.proofs.Common.{◌≡◌, ℕ, zero, suc, ◌+◌, ◌-◌, ◌<◌, List, [], ◌∷◌, ◌++◌, length, map, take, drop, get_or, nat_lt, codes, All, Bool, true, false, cond, Option, Some, None, Vec, Global, refl, sym, ap, ◌∙◌, subst, arith, common_steps}
 use Rattle.std.specs.Prelude.{filter, flat_map, not, Result, Ok, Err, OnOk}
 use Rattle.std.specs.Map.{lookup}
 use Rattle.std.proofs.lemmas.Grind.{flat_map-append}
@@ -303,3 +303,6 @@ file_same list members rest a b c d e f g begun before kept named listed after e
 pub places_none : (stored : List (Subnet × Vec ℕ Global)) → stored ≡ [] → (subnet : Subnet) → places_at stored subnet ≡ places_of subnet []
 unfolding places_from
 places_none stored none subnet = ap (λ xs. places_at xs subnet) none
+
+pub rest_whole : {X : Type 0} (xs : List X) (n : ℕ) → take (length xs - n) (drop n xs) ≡ drop n xs
+rest_whole xs n = grind (arith, common_steps)

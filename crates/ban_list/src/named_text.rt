@@ -1,4 +1,4 @@
-ghost use Rattle.std.specs.Prelude.{◌≡◌, ◌∷◌, ◌++◌, All, IfOk, OnOk, List, length, map, flat_map, codes};
+ghost use Rattle.std.specs.Prelude.{◌≡◌, ◌≤◌, ◌∷◌, ◌++◌, All, IfOk, OnOk, List, drop, length, map, flat_map, codes};
 ghost use Rattle.json.specs.Json.{Json};
 ghost use Rattle.json.specs.Print.{print};
 ghost use Rattle.json.specs.Tree.{HasNumbers, json_tokens};
@@ -84,13 +84,10 @@ fn put_file(
         bans.now))) }
 {
     writer.begin_object()?;
-    let rest = match put_before(writer, members) {
-        Ok(rest) => rest,
-        Err(error) => return Err(error),
-    };
+    let count = put_before(writer, members)?;
     writer.key("banned_nets")?;
     put_list(alloc, writer, items, subnets, places, bans)?;
-    put_besides(writer, Part::File, rest)?;
+    put_besides(writer, Part::File, &members[count..])?;
     writer.end_object()?;
     Ok(())
 }
@@ -159,27 +156,24 @@ fn list_of(alloc: Global, list: Option<Vec<usize>>) -> Vec<usize>
     }
 }
 
-/// Writes the members before the first one that is a list, and returns those from there on.
-fn put_before<'m, 'a>(
-    writer: &mut Writer,
-    members: &'m [(&'a str, Tree<'a>)],
-) -> Result<&'m [(&'a str, Tree<'a>)], Memory>
+/// Writes the members before the first one that is a list, and returns how many they are.
+fn put_before(writer: &mut Writer, members: &[(&str, Tree<'_>)]) -> Result<usize, Memory>
     requires { All (λ m. HasNumbers (value_view m.1)) members.now }
-    ensures numbers { IfOk result (λ rest. All (λ m. HasNumbers (value_view m.1)) rest.now) }
-    ensures tokens { IfOk result (λ rest. (list : Json)
+    ensures bound { IfOk result (λ count. count ≤ length members.now) }
+    ensures tokens { IfOk result (λ count. (list : Json)
         → writer.new.tokens ++ tokens_of ((codes "banned_nets", list)
-        ∷ besides is_list_name (map member_view rest.now))
+        ∷ besides is_list_name (map member_view (drop count members.now)))
         ≡ writer.old.tokens ++ tokens_of (with_list list (map member_view members.now))) }
     ensures before { OnOk result (writer.new.before ≡ writer.old.before) }
 {
     for i in 0..members.len() {
         let member = &members[i];
         if Part::File.has(member.0) {
-            return Ok(&members[i..]);
+            return Ok(i);
         }
         put_member(writer, member.0, &member.1)?;
     }
-    Ok(&members[members.len()..])
+    Ok(members.len())
 }
 
 /// Writes a member.
