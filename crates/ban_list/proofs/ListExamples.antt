@@ -79,4 +79,3 @@ below_zero = refl
 
 not_a_number : at (boolean true) ≡ None
 not_a_number = refl
-

@@ -295,10 +295,11 @@ file_same list members rest a b c d e f g begun before kept named listed after e
     let name = Token.key (codes "banned_nets") ∷ [] in
     let after_same = subst (IsAppended e f) (besides_same part.File rest) after in
     let middle = then_appended c d f name (json_tokens list ++ besides_rest) named (then_appended d e f (json_tokens list) besides_rest listed after_same) in
-    let whole = middle.0 ∙ before in
-    (ended.0 ∙ ap (λ ts. ts ++ end) (whole ∙ ap (λ ts. ts ++ all) begun.0 ∙ append_assoc a.tokens (Token.begin_object ∷ []) all) ∙ append_assoc a.tokens (Token.begin_object ∷ all) end
-    ∙ ap (λ ts. a.tokens ++ Token.begin_object ∷ ts) (sym (members_end (with_list list (map member_view members)))),
-    ended.1 ∙ middle.1 ∙ kept ∙ begun.1)
+    let whole = middle.0 ∙ before in (
+      ended.0 ∙ ap (λ ts. ts ++ end) (whole ∙ ap (λ ts. ts ++ all) begun.0 ∙ append_assoc a.tokens (Token.begin_object ∷ []) all) ∙ append_assoc a.tokens (Token.begin_object ∷ all) end
+          ∙ ap (λ ts. a.tokens ++ Token.begin_object ∷ ts) (sym (members_end (with_list list (map member_view members)))),
+      ended.1 ∙ middle.1 ∙ kept ∙ begun.1,
+    )
 
 pub places_none : (stored : List (Subnet × Vec ℕ Global)) → stored ≡ [] → (subnet : Subnet) → places_at stored subnet ≡ places_of subnet []
 unfolding places_from

@@ -67,8 +67,8 @@ put_found true name k j d old is own =
     ap (λ n. get_member n (put k d old)) (sym same) ∙ get_member-put k d old ∙ sym own
 put_found false name k j d old is own = get_member-put_other name k d old (λ same. apart (sym is ∙ (bytes_eq-Decides k name).1 (sym same)))
   where
-  apart : false ≡ true → ⊥
-  apart e = cc
+    apart : false ≡ true → ⊥
+    apart e = cc
 
 later : (o : Option Json) (own : Option Json) (old now : Option Data) → now ≡ read_or own old → read_or o now ≡ read_or (find.later_or o own) old
 later None own old now same = same
@@ -109,9 +109,9 @@ items_read ms js d ds is found listed =
     ap (get (codes "banned_nets")) (sym own) ∙ get_read (codes "banned_nets") ms no_members new made ∙ ap (λ o. read_or o None) found in
     through (of_items (items_of js)) (shown.items_of ds) (ap (option_and_then as_array) (sym here) ∙ listed)
   where
-  through : (o : Option Items) (items : Items) → option_and_then as_array (option_map array o) ≡ Some items → o ≡ Some items
-  through None items e = absurd (cc)
-  through (Some own) items e = e
+    through : (o : Option Items) (items : Items) → option_and_then as_array (option_map array o) ≡ Some items → o ≡ Some items
+    through None items e = absurd (cc)
+    through (Some own) items e = e
 
 abbrev first_of : Items → Data → Data
 first_of no_items d = d
@@ -140,15 +140,15 @@ old_elements [] [] [] is are = (refl, tt)
 old_elements [] [] (s ∷ subnets) is are = absurd (cc)
 old_elements [] (d ∷ ds) subnets is are = absurd (apart (ap is_item (Some_inj _ _ is)))
   where
-  apart : false ≡ true → ⊥
-  apart e = cc
+    apart : false ≡ true → ⊥
+    apart e = cc
 old_elements (j ∷ js) [] subnets is are =
     let (d, own, more) = then_some (λ d. option_map (item d) (of_items (items_of js))) (of_json j) no_items is in
     let (rest, made, same) = map_some (item d) (of_items (items_of js)) no_items more in
     absurd (apart (ap is_item same))
   where
-  apart : true ≡ false → ⊥
-  apart e = cc
+    apart : true ≡ false → ⊥
+    apart e = cc
 old_elements (j ∷ js) (e ∷ ds) [] is are = absurd are
 old_elements (j ∷ js) (e ∷ ds) (s ∷ subnets) is are =
     let (d, own, more) = then_some (λ d. option_map (item d) (of_items (items_of js))) (of_json j) (shown.items_of (e ∷ ds)) is in
@@ -182,9 +182,9 @@ items_numbers j vs have found =
     let own = HasNumbers-get (codes "banned_nets") j (json.array (items_of js)) have (sym (list_found j js found)) in
     viewed_all vs (subst (All HasNumbers) (listed js) (items_all (items_of js) own))
   where
-  listed : (js : List Json) → item_list (items_of js) ≡ js
-  listed [] = refl
-  listed (j ∷ js) = ap (λ xs. j ∷ xs) (listed js)
+    listed : (js : List Json) → item_list (items_of js) ≡ js
+    listed [] = refl
+    listed (j ∷ js) = ap (λ xs. j ∷ xs) (listed js)
 
 -- sorted bans over an old file
 pub named_over : (bytes : List ℕ) (d : Data) (ds : List Data) (subnets : List (Option Subnet)) (j : Json) (members : List Member) (js : List Json) →
@@ -193,9 +193,11 @@ pub named_over : (bytes : List ℕ) (d : Data) (ds : List Data) (subnets : List 
 named_over bytes d ds subnets j members js is listed are tree whole found =
     let own = subst (λ i. of_json i ≡ Some d) whole (tree_reads bytes d j is tree) in
     let array = subst (λ i. find.get (codes "banned_nets") i ≡ Some (json.array (items_of js))) whole (list_found j js found) in
-    let (long, all) = old_elements js ds subnets (items_read (members_of members) js d ds own array listed) are in
-    (long, record {
-      text = tree ∙ ap Some whole;
-      list = array ∙ ap (λ xs. Some (json.array (items_of xs))) (sym (elements_first js subnets long));
-      are = all;
-    })
+    let (long, all) = old_elements js ds subnets (items_read (members_of members) js d ds own array listed) are in (
+      long,
+      record {
+        text = tree ∙ ap Some whole;
+        list = array ∙ ap (λ xs. Some (json.array (items_of xs))) (sym (elements_first js subnets long));
+        are = all;
+      },
+    )

@@ -188,11 +188,7 @@ fn put_member(writer: &mut Writer, name: &str, tree: &Tree<'_>) -> Result<(), Me
 }
 
 /// Writes the members that are not written anew.
-fn put_besides(
-    writer: &mut Writer,
-    part: Part,
-    members: &[(&str, Tree<'_>)],
-) -> Result<(), Memory>
+fn put_besides(writer: &mut Writer, part: Part, members: &[(&str, Tree<'_>)]) -> Result<(), Memory>
     requires { All (λ m. HasNumbers (value_view m.1)) members.now }
     ensures { OnOk result (IsAppended writer.old writer.new
         (flat_map (besides_tokens part) members.now)) }

@@ -12,4 +12,4 @@ returns c =
     let same = subst (λ xs. IsPermutation bans xs) (sym c.as_slice-in-None.ensures.value) (subst (λ xs. IsPermutation xs c.in_ok-list.list.items) c.bans.ensures.value c.in_ok-list.ensures.same) in
     let order = subst (IsSortedBy comes_before) (sym c.as_slice-in-None.ensures.value) c.in_ok-list.ensures.order in
     subst (λ old. IfOk c.write_named.result (IsNamedFile old bans)) (sym c.in-None.is)
-    (ok_then _ (IsNamedFile None bans) (λ text is. record { members = []; elements = []; is_old = (refl, refl); sorted = list; same = same; order = order; exact = is; }) c.write_named.result c.write_named.ensures)
+    (ok_then _ (IsNamedFile None bans) (λ text is. record { members = []; elements = []; is_old = (refl, refl); sorted = list; same = same; order = order; exact = is }) c.write_named.result c.write_named.ensures)

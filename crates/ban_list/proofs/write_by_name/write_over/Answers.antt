@@ -20,7 +20,7 @@ write_named-requires-clause-subnets c =
     let elements = map view c.in-Some.elements.now in
     let are = subst (AreSubnets elements) (sym c.as_slice.ensures.value) c.in_ok-subnets.ensures in
     let over = named_over c.args.bytes.now (view c.in-Ok.value) elements c.as_slice.result.now (value_view c.in-Ok-from_slice.tree) (map member_view c.in-Some-members_of.members.now) (map value_view items)
-        c.in-Ok.ensures.ok.1 (sym c.in-Some.ensures) are c.in-Ok-from_slice.ensures.ok.1 c.in-Some-members_of.ensures.object (sym c.in-Some-items_of.ensures) in
+    c.in-Ok.ensures.ok.1 (sym c.in-Some.ensures) are c.in-Ok-from_slice.ensures.ok.1 c.in-Some-members_of.ensures.object (sym c.in-Some-items_of.ensures) in
     sym (viewed_length items) ∙ over.0
 
 pub returns : goal.returns
@@ -30,6 +30,6 @@ returns c =
     let members = map member_view c.in-Some-members_of.members.now in
     let are = subst (AreSubnets elements) (sym c.as_slice.ensures.value) c.in_ok-subnets.ensures in
     let over = named_over c.args.bytes.now (view c.in-Ok.value) elements c.as_slice.result.now (value_view c.in-Ok-from_slice.tree) members (map value_view items)
-        c.in-Ok.ensures.ok.1 (sym c.in-Some.ensures) are c.in-Ok-from_slice.ensures.ok.1 c.in-Some-members_of.ensures.object (sym c.in-Some-items_of.ensures) in
+    c.in-Ok.ensures.ok.1 (sym c.in-Some.ensures) are c.in-Ok-from_slice.ensures.ok.1 c.in-Some-members_of.ensures.object (sym c.in-Some-items_of.ensures) in
     ok_then _ (IsNamedOver c.args.bytes.now c.args.bans.now)
-    (λ text is. record { members = members; elements = elements_with (map value_view items) c.as_slice.result.now; is_old = over.1; exact = is; }) c.write_named.result c.write_named.ensures
+    (λ text is. record { members = members; elements = elements_with (map value_view items) c.as_slice.result.now; is_old = over.1; exact = is }) c.write_named.result c.write_named.ensures
