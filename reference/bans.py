@@ -6,13 +6,14 @@ from addresses import (
     CJDNS, I2P, INTERNAL, IPV4, IPV6, ONION, Address, address_text, from_sixteen, ipv4_text,
     ipv6_text, read_address, read_ipv4, read_ipv6,
 )
-from json_text import read_json, written_json
+from json_text import Integer, Members, read_json, written_json
 from names import name_of, read_name
 from text import Fault, read_number
 
 MAXIMUM_BYTES = 33_554_432
 MAXIMUM_BANS = 100_000
 LARGEST_TIME = 4294967295
+OWN_NAMES = ("address", "ban_created", "banned_until", "version")
 WHOLE = (ONION, I2P, CJDNS)
 ORDER = (IPV4, IPV6, ONION, I2P, CJDNS)
 
@@ -37,12 +38,12 @@ class Ban(NamedTuple):
 
 
 class BanList(NamedTuple):
-    """A list, what its file has besides it, and whether it is read and written as Bitcoin Core does. `found` has the members of the
-    elements of each subnet."""
+    """A list, the members of its file, and whether it is read and written as Bitcoin Core does. `found` has the members of the elements
+    of each subnet besides those of a ban, and `others` the elements that are no bans."""
 
     bans: dict[Subnet, Ban]
-    members: dict
-    found: dict[Subnet, dict]
+    members: list[tuple]
+    found: dict[Subnet, list[tuple]]
     others: list
     core: bool
 
@@ -101,14 +102,14 @@ def read_element(element, core: bool) -> tuple[Subnet, Ban] | None:
         return None
     version, address = element.get("version"), element.get("address")
     times = [element.get("ban_created"), element.get("banned_until")]
-    if type(version) is not int or version != 1 or type(address) is not str:
+    if not isinstance(version, Integer) or version != 1 or type(address) is not str:
         return None
-    if any(type(time) is not int for time in times):
+    if not all(isinstance(time, Integer) for time in times):
         return None
     subnet = read_subnet(address.encode(), core)
     if subnet is None:
         return None
-    return subnet, Ban(*(min(max(time, 0), LARGEST_TIME) for time in times))
+    return subnet, Ban(*(int(min(max(time, 0), LARGEST_TIME)) for time in times))
 
 
 def read_list(data: bytes, core: bool) -> BanList:
@@ -121,11 +122,11 @@ def read_list(data: bytes, core: bool) -> BanList:
     pairs = [pair for _, pair in read if pair is not None]
     if len(pairs) > MAXIMUM_BANS:
         raise Fault("too-many")
-    found: dict[Subnet, dict] = {}
+    found: dict[Subnet, list[tuple]] = {}
     for element, pair in read:
         if pair is not None:
-            found.setdefault(pair[0], {}).update(element)
-    return BanList(dict(pairs), value, found, [element for element, pair in read if pair is None], core)
+            found.setdefault(pair[0], []).extend(part for part in element.pairs if part[0] not in OWN_NAMES)
+    return BanList(dict(pairs), value.pairs, found, [element for element, pair in read if pair is None], core)
 
 
 def place(pair: tuple[Subnet, Ban]) -> tuple:
@@ -137,14 +138,22 @@ def place(pair: tuple[Subnet, Ban]) -> tuple:
 def written_list(listed: BanList) -> bytes:
     """The file of a list."""
     pairs = sorted(listed.bans.items(), key=place) if listed.core else listed.bans.items()
-    elements = [
-        {"address": subnet_text(subnet, listed.core), "ban_created": ban.made, "banned_until": ban.until, "version": 1}
-        for subnet, ban in pairs
-    ]
-    if listed.core:
-        elements = [{**listed.found.get(subnet, {}), **element} for (subnet, _), element in zip(pairs, elements)]
-        return written_json({**listed.members, "banned_nets": elements + listed.others}).encode()
-    return written_json({"banned_nets": elements}).encode()
+    elements: list = []
+    for subnet, own in pairs:
+        values = (subnet_text(subnet, listed.core), own.made, own.until, 1)
+        besides = listed.found.get(subnet, []) if listed.core else []
+        elements.append(Members([*zip(OWN_NAMES, values), *besides]))
+    if not listed.core:
+        return written_json(Members([("banned_nets", elements)])).encode()
+    return written_json(Members(with_list(listed.members, elements + listed.others))).encode()
+
+
+def with_list(members: list[tuple], elements: list) -> list[tuple]:
+    """The members of a file, with a list in the place of the first one that has its name, and no other one of it."""
+    names = [name for name, _ in members]
+    at = names.index("banned_nets") if "banned_nets" in names else len(names)
+    after = [part for part in members[at:] if part[0] != "banned_nets"]
+    return [*members[:at], ("banned_nets", elements), *after]
 
 
 def ban(listed: BanList, subnet: Subnet, now: int, until: int) -> str:

@@ -594,7 +594,7 @@ class Run:
     def ban_list(self, core: bool) -> bans.BanList:
         """The folder's list of bans."""
         read = self.load("banlist.json", bans.MAXIMUM_BYTES, 16, lambda data: bans.read_list(data, core))
-        listed = bans.BanList({}, {}, {}, [], core) if read is None else read
+        listed = bans.BanList({}, [], {}, [], core) if read is None else read
         if listed.others:
             after_save = "which a save keeps" if core else "which a save leaves out"
             self.passed_over = f"elements of banlist.json passed over, {after_save}: {len(listed.others)}; "

@@ -2,7 +2,6 @@
 
 import json
 import math
-from decimal import Decimal
 
 from text import Fault
 
@@ -12,11 +11,27 @@ LONGEST_INTEGER = 20
 
 
 class Members(dict):
-    """The members of an object, the last one of each name; `every` has all names and values."""
+    """The members of an object, the last one of each name; `pairs` has all of them in their order."""
 
     def __init__(self, pairs: list[tuple]):
         super().__init__(pairs)
-        self.every = [part for pair in pairs for part in pair]
+        self.pairs = pairs
+
+    def every(self) -> list:
+        """All names and values."""
+        return [part for pair in self.pairs for part in pair]
+
+
+class Integer(int):
+    """An integer of 64 bits, with the digits of its text."""
+
+    digits: str
+
+
+class Float(float):
+    """A number that is no integer of 64 bits, with the digits of its text."""
+
+    digits: str
 
 
 def refuse(_name: str):
@@ -24,19 +39,21 @@ def refuse(_name: str):
     raise Fault("json")
 
 
-def number(digits: str) -> float:
+def number(digits: str) -> Float:
     """A number that is no integer of 64 bits."""
-    value = float(digits)
+    value = Float(digits)
+    value.digits = digits
     if math.isinf(value):
         raise Fault("json")
     return value
 
 
-def integer(digits: str) -> int | float:
+def integer(digits: str) -> Integer | Float:
     """A number without fraction and exponent, an int if it is an integer of 64 bits."""
     if len(digits) > LONGEST_INTEGER or digits == "-0":
         return number(digits)
-    value = int(digits)
+    value = Integer(digits)
+    value.digits = digits
     return value if LEAST_INTEGER <= value <= LARGEST_INTEGER else number(digits)
 
 
@@ -48,34 +65,19 @@ def depth(value) -> int:
         except UnicodeEncodeError:
             raise Fault("json")
     if isinstance(value, Members):
-        value = value.every
+        value = value.every()
     return 1 + max(map(depth, value), default=0) if isinstance(value, list) else 0
 
 
-def number_text(value: float) -> str:
-    """A number that is no integer of 64 bits as it is written: the shortest digits that are read as it."""
-    sign, digits, exponent = Decimal(repr(value)).normalize().as_tuple()
-    letters, point = "".join(map(str, digits)), len(digits) + exponent
-    minus = "-" if sign else ""
-    if value == 0:
-        return minus + "0.0"
-    if 0 <= exponent and point <= 16:
-        return f"{minus}{letters}{'0' * exponent}.0"
-    if 0 < point <= 16:
-        return f"{minus}{letters[:point]}.{letters[point:]}"
-    if -5 < point <= 0:
-        return f"{minus}0.{'0' * -point}{letters}"
-    return f"{minus}{letters[0]}{'.' * (len(letters) > 1)}{letters[1:]}e{point - 1:+d}"
-
-
 def written_json(value) -> str:
-    """The text of a value, without spaces, and the members of an object by their names."""
-    if isinstance(value, dict):
-        pairs = sorted(value.items(), key=lambda pair: pair[0].encode())
-        return "{%s}" % ",".join(f"{written_json(name)}:{written_json(part)}" for name, part in pairs)
+    """The text of a value, without spaces and with the shortest escapes; a number that was read has the digits of its text."""
+    if isinstance(value, Members):
+        return "{%s}" % ",".join(f"{written_json(name)}:{written_json(part)}" for name, part in value.pairs)
     if isinstance(value, list):
         return "[%s]" % ",".join(map(written_json, value))
-    return number_text(value) if isinstance(value, float) else json.dumps(value, ensure_ascii=False)
+    if isinstance(value, (Integer, Float)):
+        return value.digits
+    return json.dumps(value, ensure_ascii=False)
 
 
 def read_json(data: bytes):

@@ -126,7 +126,7 @@ impl<H: BuildHasher> LimitLog<H> {
 
 /// The lines of a log, one step a line. They change nothing besides the log's own state.
 impl<H: BuildHasher> LineSteps<()> for LimitLog<H> {
-    ghost use Rattle.std.specs.Prelude.{⊤};
+    ghost use Rattle.std.specs.Prelude.{◌≡◌, true, ⊤};
     ghost use Rattle.addr_limit.specs.Lines.{HasEventFault, LimitStep};
 
     ghost step = { λ old before line text new after. LimitStep old line text new };
@@ -137,7 +137,9 @@ impl<H: BuildHasher> LineSteps<()> for LimitLog<H> {
 
     ghost has_room = { λ l n. ⊤ };
 
-    fn keeps_world(&self) -> bool {
+    fn keeps_world(&self) -> bool
+        ensures { result ≡ true }
+    {
         true
     }
 

@@ -74,7 +74,7 @@ pub record IsTextOf (file text : List ℕ) : Type 0 where
   pub asn : (address : ℕ) → address < 2 ^ 128
       → best (rows_back tree) address ≡ asn_of tree address
 
--- why an asmap is not turned back: memory, that it is none, or too many rows
+-- why an asmap is not turned back: memory, bytes of no asmap, or too many rows
 abbrev pub IsNoTable : List ℕ → NoTable → Type 0
 IsNoTable file back.Memory = ⊤
 IsNoTable file back.NotSane =

@@ -57,7 +57,7 @@ abbrev pub PrintCall : List Ban → ℕ → List ℕ → List ℕ → ℕ → Ty
 PrintCall bans code old new count =
     ((code ≡ MEMORY) × (new ≡ old)) ⊎ IsPut (bans_text bans) old code count new
 
--- the subnet that a text is, or that it is none
+-- the subnet that a text names, if it names one
 abbrev pub IsParsed : List ℕ → Option Subnet → Type 0
 IsParsed text None = (s : Subnet) → IsSubnetText text s → ⊥
 IsParsed text (Some s) = IsSubnetText text s

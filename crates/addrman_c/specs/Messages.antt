@@ -46,7 +46,7 @@ ReadMessageCall form payload code old new count out =
     × EntriesPut (known entries) code old new count))
 
 -- The message of this form of entries, of those that it has a form for. More entries than a message
--- may have, and one whose address is none, are refused.
+-- may have, and one whose address is not valid, are refused.
 abbrev pub WriteMessageCall : Form → List AddrmanEntry → ℕ → List ℕ → List ℕ → ℕ → Type 0
 WriteMessageCall form structs code old new count =
     ((MAX_ENTRIES < length structs) × (code ≡ ARGUMENT) × (new ≡ old))

@@ -24,7 +24,7 @@ set_in out =
     if not (out.asn == 0) then Some (Number out.asn)
     else option_and_then (subnet_of out.prefix) (address_in out.base)
 
--- the sets, without those that are none
+-- the sets, without those that are not valid
 abbrev pub sets_in : List AddrmanSet → List AddrSet
 sets_in structs = flat_map (λ out. option_to_list (set_in out)) structs
 
@@ -33,8 +33,8 @@ abbrev pub AreShares : AddrmanShares → Parts → Type 0
 AreShares out parts =
     (out.picks ≡ parts.picks) × (out.new_only ≡ parts.new) × (out.tried ≡ parts.tried)
 
--- The parts of the picks that fall to peers with an address in one of the sets. One that is none is
--- refused.
+-- The parts of the picks that fall to peers with an address in one of the sets. One that is not
+-- valid is refused.
 abbrev pub RiskCall : List AddrmanSet → State → ℕ → ℕ → AddrmanShares → Type 0
 RiskCall structs st now code out =
     (code ≡ MEMORY)

@@ -55,7 +55,7 @@ fn read_set(set: &AddrmanSet) -> Option<AddrSet>
     subnet_of(read_addr(&set.base)?, set.prefix)
 }
 
-/// Reads sets, without those that are none.
+/// Reads the sets, without those that are not valid.
 fn read_sets(alloc: Global, structs: &[AddrmanSet]) -> Result<Vec<AddrSet>, Memory>
     ensures found { IfOk result (λ sets. sets.items ≡ sets_in structs.now) }
     ensures few { IfOk result (λ sets. length sets.items ≤ length structs.now) }

@@ -65,7 +65,7 @@ pub(crate) struct Given<'a> {
 /// What the next argument is.
 #[derive(Clone, Copy)]
 enum Next {
-    /// An argument that no option waits for.
+    /// An argument that is not the value of an option.
     Any,
     /// The file of `--key-file`.
     KeyFile,

@@ -201,9 +201,8 @@ fn passed_over_hint(alloc: Global, learned: &Learned) -> Result<String, AllocErr
     } else {
         "which a save leaves out"
     };
-    format!(in alloc;
-        "elements of banlist.json passed over, {after_save}: {count}; a ban has version 1, a subnet and two times"
-    )
+    let form = "a ban has version 1, a subnet and two times";
+    format!(in alloc; "elements of banlist.json passed over, {after_save}: {count}; {form}")
 }
 
 /// Returns what is said of the saves, if some failed.

@@ -29,10 +29,6 @@ use Rattle.opener_lines.specs.Grammar.{HasRequestFault}
 use Rattle.peer_open.specs.declared.rules.OpenRules.{OpenRules}
 use Rattle.peers_file.specs.declared.chain.Chain.{Chain}
 use Rattle.arguments.specs.declared.file_kind.FileKind.{FileKind}
-use Rattle.arguments.specs.declared.grouping.Grouping.{Grouping}
-use Rattle.arguments.specs.declared.grouping.Grouping.TheVariants.{Source, Peer, Network, Sets}
-use Rattle.arguments.specs.declared.tables_from.TablesFrom.{TablesFrom}
-use Rattle.arguments.specs.declared.tables_from.TablesFrom.TheVariants as from
 use Rattle.raw_file.specs.Faults.{HasListingFault}
 use Rattle.raw_file.specs.Input.{IsInput, IsLong}
 use Rattle.raw_file.specs.Listing.{first_fault}
@@ -44,9 +40,8 @@ use Rattle.raw_read.specs.declared.read.TheConstants.{MAX_TEXT}
 use Rattle.risk_parts.specs.declared.addr_set.AddrSet.{AddrSet}
 use Rattle.addrman_run.specs.Bans.{BansEnds, Change, ReportsBans}
 use Rattle.addrman_run.specs.Compile.{CompileEnds}
-use Rattle.addrman_run.specs.Complete.{IsAddressLine, IsComplete, IsGoodListing, IsGoodLog, IsLimitLine, IsLookupLine, IsOpenerLine, IsReplayLine, IsSetLine, IsUsable, NoRefusal, NoRiskFault, NeedsFolder, NoSaveFails, NothingFails, NothingIsWrong}
+use Rattle.addrman_run.specs.Complete.{IsAddressLine, IsComplete, IsGoodListing, IsGoodLog, IsLimitLine, IsLookupLine, IsOpenerLine, IsReplayLine, IsSetLine, IsUsable, NoRefusal, NeedsFolder, NoSaveFails, NothingFails, NothingIsWrong}
 use Rattle.addrman_run.specs.Opening.{ReportsOpening, ReportsTables}
-use Rattle.addrman_run.specs.Risk.{RiskEnds}
 use Rattle.addrman_run.specs.RiskLines.{HasSetFault, LacksTables, RiskLinesEnds, RiskedSets, SetStep, SetsRead, Writes, WritesAfter}
 use Rattle.addrman_run.specs.FileLine.{FileLineEnds}
 use Rattle.addrman_run.specs.FromRaw.{FromRawEnds, RefusesListing}
@@ -64,7 +59,6 @@ use Rattle.addrman_run.specs.Tables.{ReportsTable}
 use Rattle.addrman_run.specs.TextOut.{TextEnds}
 use Rattle.arguments.specs.declared.request.Request.TheVariants as request
 use Rattle.arguments.specs.declared.request.Request.{Request}
-use Rattle.addrman_run.specs.Views.{ReportsView}
 use Rattle.addrman_run.specs.declared.status.Status.TheVariants.{Done, LogLine, PeersRefused, AsmapRefused, ReadFault, WriteFault, DiskFault, LogTooLong, NoKey, Memory, LineTooLong, NoFile, RawRefused}
 use Rattle.addrman_run.specs.declared.status.Status.{Status}
 
@@ -312,15 +306,6 @@ text_done IsText Refuses old new WriteFault ends cause fine calm = absurd (no_wr
 text_done IsText Refuses old new DiskFault ends cause fine calm = absurd (no_disk_fault old new cause calm ends.left.0)
 text_done IsText Refuses old new other ends cause fine calm = absurd (fine other ends.text.0)
 
--- `risk`, for groups or for sets
-risk_done : (by : Grouping) (tables : TablesFrom) (old new : Outside) (answer : Status) → RiskEnds by tables old new answer → HasCause old new answer
-    → NoRiskFault by old.left → NoRefusal (ReportsView tables old.past) → Calm old new → IsDone answer
-risk_done Source tables old new answer ends cause fine good calm = text_done _ _ old new answer ends.ends cause good calm
-risk_done Peer tables old new answer ends cause fine good calm = text_done _ _ old new answer ends.ends cause good calm
-risk_done Network tables old new answer ends cause fine good calm = text_done _ _ old new answer ends.ends cause good calm
-risk_done Sets (from.File kind) old new answer ends cause fine good calm = risk_lines_done kind old new answer ends cause fine good calm
-risk_done Sets (from.Listing chain) old new answer ends cause fine good calm = absurd ends
-
 compile_done : (old new : Outside) (answer : Status) → CompileEnds old new answer → HasCause old new answer → IsUsable name.Prefixes ReportsTable old.past → Calm old new → IsDone answer
 compile_done old new Done ends cause fine calm = inl refl
 compile_done old new Memory ends cause fine calm = inr refl
@@ -422,7 +407,8 @@ done_if (request.Picture colours from) old new answer ends cause fine calm still
 done_if (request.Raw kind) old new answer ends cause fine calm still = text_done _ _ old new answer ends.ends cause fine calm
 done_if (request.Info from) old new answer ends cause fine calm still = text_done _ _ old new answer ends.ends cause fine calm
 done_if (request.Groups from) old new answer ends cause fine calm still = text_done _ _ old new answer ends.ends cause fine calm
-done_if (request.Risk by tables) old new answer ends cause fine calm still = risk_done by tables old new answer ends cause fine.0 fine.1 calm
+done_if (request.Risk by tables) old new answer ends cause fine calm still = text_done _ _ old new answer ends.ends cause fine calm
+done_if (request.RiskLines kind) old new answer ends cause fine calm still = risk_lines_done kind old new answer ends cause fine.0 fine.1 calm
 done_if (request.FromRaw key kind) old new answer ends cause fine calm still = from_raw_done key kind old new answer ends cause fine calm (still tt)
 done_if (request.Ban rule subnet now until) old new answer ends cause fine calm still = bans_done _ _ old new answer ends cause fine calm
 done_if (request.Unban rule subnet) old new answer ends cause fine calm still = bans_done _ _ old new answer ends cause fine calm

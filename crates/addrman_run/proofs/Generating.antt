@@ -7,7 +7,7 @@ use Rattle.host_io.specs.Writing.{Appended, AppendedPart, AppendedPrefix}
 use Rattle.host_io.proofs.Appending.{append_both, append_none, append_part, append_prefix}
 use Rattle.gen_load.specs.Log.{next_line, lines_after}
 
--- the text so far, the text that waits to be written, and the lines that are still to come
+-- the text that is written, the text that waits to be written, and the lines that are still to come
 pub record Writing (log now : List (List ℕ)) (piece : List ℕ) (old new : Option (List ℕ)) : Type 0 where
   pub text : List ℕ
   pub written : Appended old new text

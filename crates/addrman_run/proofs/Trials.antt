@@ -31,7 +31,7 @@ use Rattle.addrman_run.specs.Opening.{places_of}
 use Rattle.addrman_run.specs.Replay.{at_start}
 use Rattle.addrman_run.specs.Trial.{IsTrial, sizes_text, trial_start, with_counts, with_sum}
 
--- the lines so far have their replies, of which the hasher holds all
+-- the lines before these have their replies, of which the hasher holds all
 pub record Trying (start : session.SessionState) (log now : List (List ℕ)) (st : session.SessionState) (hasher : Sha256) (bytes : ℕ) : Type 0 where
   pub answered : List (List ℕ)
   pub text : List ℕ

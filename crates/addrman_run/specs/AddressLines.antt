@@ -25,7 +25,7 @@ HasAddressFault line fault =
     ¬ IsPassedOver line × (fault ≡ Peer) × ((a : Address) → ¬ IsTextOf line a)
 
 -- A run over the log under the folder's asmap, or none if there is no such file, by its end, in
--- which it is told what is known of each address.
+-- which what is known of each address is written.
 pub record Described (past : Option Past) (old new : Streams) (how : LogEnd) : Type 0 where
   pub map : Option Asmap
   pub has_map : IsMapIn past map

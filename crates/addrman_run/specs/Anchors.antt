@@ -1,4 +1,4 @@
--- What a listing of anchors writes, and how it ends. The file stands in the place of peers.dat: the
+-- What a listing of anchors writes, and how it ends. The file is in the place of peers.dat: the
 -- program puts the folder's anchors.dat there, or the file that its arguments name.
 use Rattle.std.specs.Prelude.{◌≡◌, ◌≢◌, ℕ, List, Option}
 use Rattle.anchors.specs.Layout.{HasFileFault, IsFile}

@@ -1,5 +1,5 @@
--- What the commands on banlist.json write and save, and how they end. The rule says whether the list
--- is read and written as Bitcoin Core does.
+-- What the commands on banlist.json write and save, and how they end. The rule says whether the
+-- list is read and written as Bitcoin Core does.
 use Rattle.std.specs.Prelude.{◌≡◌, ◌≢◌, ◌⊎◌, ℕ, Bool, true, false, List, [], ◌++◌, Option, Some, None, find, is_some, codes, decimal}
 use Rattle.ban_list.specs.BanFile.{IsListFile, HasListFault}
 use Rattle.ban_list.specs.Bans.{after_ban_by, listed, without_ban, stops}
@@ -132,7 +132,8 @@ IsSaved rule file (Some bans) old new =
     (text : List ℕ) × IsWritten rule file bans text × IsInPlace name.Bans text new
 
 -- the list was changed, if there was something to save, and the line was written, or a part of it
-abbrev pub Changes : BanRule → (List Ban → Change) → (Option (List ℕ) → Option (List ℕ) → List ℕ → Type 0) →
+abbrev pub Changes : BanRule → (List Ban → Change) →
+    (Option (List ℕ) → Option (List ℕ) → List ℕ → Type 0) →
     Option Past → Option Past → Option (List ℕ) → Option (List ℕ) → Type 0
 Changes rule change Writes old new before after =
     (file : Option (List ℕ)) × (bans : List Ban) × IsListIn rule old file bans

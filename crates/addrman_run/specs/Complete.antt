@@ -3,8 +3,6 @@
 use Rattle.std.specs.Prelude.{◌≡◌, ◌⊎◌, ◌≤◌, ℕ, List, All, length, Option, Some, None, ⊤, option_map}
 use Rattle.addr_limit.specs.Lines.{SaysEvent}
 use Rattle.addr_limit.specs.declared.command.Event.{Event}
-use Rattle.arguments.specs.declared.grouping.Grouping.{Grouping}
-use Rattle.arguments.specs.declared.grouping.Grouping.TheVariants.{Sets}
 use Rattle.host_io.specs.Faults.{Rose}
 use Rattle.host_io.specs.Lines.{IsPassedOver, lines_of}
 use Rattle.host_io.specs.Outside.{Outside}
@@ -40,7 +38,7 @@ use Rattle.addrman_run.specs.Show.{ReportsPeers}
 use Rattle.addrman_run.specs.Tables.{ReportsTable}
 use Rattle.addrman_run.specs.Views.{ReportsView}
 use Rattle.arguments.specs.declared.request.Request.{Request}
-use Rattle.arguments.specs.declared.request.Request.TheVariants.{Show, Anchors, Picture, Raw, Info, Groups, Risk, FromRaw, Replay, Opener, Compile, Check, Lookup, LookupLines, Address, AddressLines, Decompile, Diff, Limit, Ban, Unban, Banned, Bans}
+use Rattle.arguments.specs.declared.request.Request.TheVariants.{Show, Anchors, Picture, Raw, Info, Groups, Risk, RiskLines, FromRaw, Replay, Opener, Compile, Check, Lookup, LookupLines, Address, AddressLines, Decompile, Diff, Limit, Ban, Unban, Banned, Bans}
 use Rattle.addrman_run.specs.declared.status.Status.{Status}
 use Rattle.addrman_run.specs.declared.status.Status.TheVariants.{Done, Memory}
 
@@ -101,11 +99,6 @@ IsUsable name Reports past = ¬ IsAbsent name past × NoRefusal (Reports past)
 
 -- THE WHOLE
 
--- the log is right, if sets are read from it
-abbrev pub NoRiskFault : Grouping → Option (List ℕ) → Type 0
-NoRiskFault Sets left = IsGoodLog IsSetLine left
-NoRiskFault other left = ⊤
-
 -- Nothing is wrong with what the request reads: the log, if it reads one, and its files.
 abbrev pub NothingIsWrong : Request → Outside → Type 0
 NothingIsWrong (Replay key kind) at =
@@ -130,8 +123,9 @@ NothingIsWrong (Picture colours from) at = NoRefusal (ReportsView from at.past)
 NothingIsWrong (Raw kind) at = NoRefusal (ReportsTables kind.chain at.past)
 NothingIsWrong (Info from) at = NoRefusal (ReportsView from at.past)
 NothingIsWrong (Groups from) at = NoRefusal (ReportsView from at.past)
-NothingIsWrong (Risk by from) at =
-    NoRiskFault by at.left × NoRefusal (ReportsView from at.past)
+NothingIsWrong (Risk by from) at = NoRefusal (ReportsView from at.past)
+NothingIsWrong (RiskLines kind) at =
+    IsGoodLog IsSetLine at.left × NoRefusal (ReportsTables kind.chain at.past)
 NothingIsWrong (FromRaw key kind) at = IsGoodListing at.left × NoRefusal (ReportsAsmap at.past)
 NothingIsWrong (Ban rule subnet now until) at = NoRefusal (ReportsBans rule at.past)
 NothingIsWrong (Unban rule subnet) at = NoRefusal (ReportsBans rule at.past)

@@ -18,6 +18,7 @@ use Rattle.addrman_run.specs.Show.{ShowEnds}
 use Rattle.addrman_run.specs.Anchors.{AnchorsEnds}
 use Rattle.addrman_run.specs.Picture.{PictureEnds}
 use Rattle.addrman_run.specs.Risk.{RiskEnds}
+use Rattle.addrman_run.specs.RiskLines.{RiskLinesEnds}
 use Rattle.addrman_run.specs.FromRaw.{FromRawEnds}
 use Rattle.addrman_run.specs.TablesJson.{GroupsEnds, InfoEnds, RawEnds}
 use Rattle.addrman_run.specs.Generate.{GenEnds}
@@ -25,7 +26,8 @@ use Rattle.addrman_run.specs.Help.{HelpEnds, VersionEnds}
 use Rattle.addrman_run.specs.Trial.{TrialEnds}
 use Rattle.addrman_run.specs.Bans.{BansEnds, ListEnds, ban_change, unban_change, banned_change}
 use Rattle.arguments.specs.declared.request.Request.{Request}
-use Rattle.arguments.specs.declared.request.Request.TheVariants.{Show, Anchors, Picture, Raw, Info, Groups, Risk, FromRaw}
+use Rattle.arguments.specs.declared.request.Request.TheVariants.{Show, Anchors, Picture, Raw, Info, Groups, Risk}
+use Rattle.arguments.specs.declared.request.Request.TheVariants.{RiskLines, FromRaw}
 use Rattle.arguments.specs.declared.request.Request.TheVariants.{Replay, Opener, Compile, Check, Lookup, LookupLines, Address, AddressLines}
 use Rattle.arguments.specs.declared.request.Request.TheVariants.{Decompile, Diff, Limit}
 use Rattle.arguments.specs.declared.request.Request.TheVariants.{Ban, Unban, Banned, Bans}
@@ -53,6 +55,7 @@ Ends (Raw kind) old new answer = RawEnds kind old new answer
 Ends (Info from) old new answer = InfoEnds from old new answer
 Ends (Groups from) old new answer = GroupsEnds from old new answer
 Ends (Risk by from) old new answer = RiskEnds by from old new answer
+Ends (RiskLines kind) old new answer = RiskLinesEnds kind old new answer
 Ends (FromRaw key kind) old new answer = FromRawEnds key kind old new answer
 Ends (Ban rule subnet now until) old new answer =
     BansEnds rule (ban_change rule (ban_of subnet now until)) old new answer

@@ -2,8 +2,7 @@
 use Rattle.std.specs.Prelude.{◌≡◌, ℕ, List, ⊤}
 use Rattle.arguments.specs.Table.{Asks}
 use Rattle.arguments.specs.declared.request.Request.{Request}
-use Rattle.arguments.specs.declared.request.Request.TheVariants.{Replay, Opener, Limit, LookupLines, AddressLines, Risk, FromRaw, Gen, Trial, Help, Version}
-use Rattle.addrman_run.specs.Risk.{AsksNoLog}
+use Rattle.arguments.specs.declared.request.Request.TheVariants.{Replay, Opener, Limit, LookupLines, AddressLines, RiskLines, FromRaw, Gen, Trial, Help, Version}
 use Rattle.addrman_run.specs.declared.status.Status.{Status}
 use Rattle.addrman_run.specs.declared.status.Status.TheVariants.{Usage}
 
@@ -14,7 +13,7 @@ ReadsNoLog (Opener rules key kind) = ⊥
 ReadsNoLog Limit = ⊥
 ReadsNoLog LookupLines = ⊥
 ReadsNoLog AddressLines = ⊥
-ReadsNoLog (Risk by from) = AsksNoLog by
+ReadsNoLog (RiskLines kind) = ⊥
 ReadsNoLog (FromRaw key kind) = ⊥
 ReadsNoLog other = ⊤
 

@@ -24,7 +24,7 @@ struct AddressLines<'a> {
 
 /// The lines of a log, what people write for an address each. They change nothing.
 impl<'a> LineSteps<()> for AddressLines<'a> {
-    ghost use Rattle.std.specs.Prelude.{⊤};
+    ghost use Rattle.std.specs.Prelude.{◌≡◌, true, ⊤};
     ghost use Rattle.names.specs.Text.{IsTextOf};
     ghost use Rattle.placing.specs.Inside.{map_of};
     ghost use Rattle.addrman_run.specs.Address.{address_text};
@@ -40,7 +40,9 @@ impl<'a> LineSteps<()> for AddressLines<'a> {
 
     ghost has_room = { λ l n. ⊤ };
 
-    fn keeps_world(&self) -> bool {
+    fn keeps_world(&self) -> bool
+        ensures { result ≡ true }
+    {
         true
     }
 

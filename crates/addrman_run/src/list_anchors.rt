@@ -9,7 +9,7 @@ use anchors::{AnchorsFault, anchors_text, read_file};
 use peers_file::Chain;
 use std::alloc::Global;
 
-/// The command that lists the anchors in the file that stands in the place of peers.dat.
+/// The command that lists the anchors in the file in the place of peers.dat.
 #[derive(Drop)]
 pub(crate) struct ListAnchors {
     /// The chain that the file has to be of.

@@ -25,7 +25,7 @@ struct LookupLines<'a> {
 
 /// The lines of a log, a peer each. They change nothing.
 impl<'a> LineSteps<()> for LookupLines<'a> {
-    ghost use Rattle.std.specs.Prelude.{⊤};
+    ghost use Rattle.std.specs.Prelude.{◌≡◌, true, ⊤};
     ghost use Rattle.placing.specs.Inside.{asmap_of};
     ghost use Rattle.addrman_run.specs.EachLine.{EachStep};
     ghost use Rattle.addrman_run.specs.LookupLines.{HasPeerFault, IsPeerLine, peer_answer};
@@ -39,7 +39,9 @@ impl<'a> LineSteps<()> for LookupLines<'a> {
 
     ghost has_room = { λ l n. ⊤ };
 
-    fn keeps_world(&self) -> bool {
+    fn keeps_world(&self) -> bool
+        ensures { result ≡ true }
+    {
         true
     }
 

@@ -24,7 +24,8 @@ use crate::lookup_lines::lookup_lines;
 use crate::opener::opener;
 use crate::picture::picture;
 use crate::replay::replay;
-use crate::risk::risk;
+use crate::risk::RiskText;
+use crate::risk_lines::risk_lines;
 use crate::show::Show;
 use crate::tables_json::{GroupsText, InfoText, write_raw};
 use crate::trial::trial;
@@ -165,7 +166,10 @@ fn carry_out<L: Source, F: Folder, K: Sink, H: BuildHasher + Drop>(
         Request::Groups { from } => {
             write_view(alloc, hasher, &GroupsText, from, folder, out, learned)
         }
-        Request::Risk { by, from } => risk(alloc, hasher, by, from, log, folder, out, learned),
+        Request::Risk { by, from } => {
+            write_view(alloc, hasher, &RiskText { by }, from, folder, out, learned)
+        }
+        Request::RiskLines { kind } => risk_lines(alloc, hasher, kind, log, folder, out, learned),
         Request::FromRaw { key, kind } => from_raw(alloc, key, kind, log, folder, out, learned),
         Request::Ban {
             rule,

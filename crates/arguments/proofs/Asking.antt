@@ -21,7 +21,7 @@ use Rattle.net_addr.specs.declared.peer.Peer.{Peer}
 use Rattle.peers_file.specs.declared.chain.Chain.{Chain}
 use Rattle.placing.specs.declared.sum.SumRule.{SumRule}
 use Rattle.placing.specs.declared.sum.SumRule.TheVariants.{Bytes}
-use Rattle.arguments.specs.Options.{HasRule, IsAfterColouring, IsAfterGrouping, IsAfterPeers, IsFileOptions, IsListingOptions, IsNet, IsOpeningOptions, IsTables, TakesTables, takes_listing}
+use Rattle.arguments.specs.Options.{HasRule, IsAfterColouring, IsAfterDash, IsAfterGrouping, IsAfterPeers, IsFileOptions, IsListingOptions, IsNet, IsOpeningOptions, IsTables}
 use Rattle.arguments.specs.Table.{AddressOrLines, AreProperSets, Asks, Coloured, Fields, ForBans, Form, Grouped, HasNoValues, IsAddressIn, IsProperRequest, Keyed, Listing, Network, OfCommand, OfSubnet, Opening, Outgoing, PeerOrLines, Period, Reads, Records, Tables, TheAddress, TheAnchors, TheBanFields, TheColours, TheCommand, TheFields, TheGroups, TheKey, TheKind, TheListing, TheOpener, TheOpening, ThePeriod, TheRecords, TheSubnet, TheTables, Values, command_word, form_of, name_of, plain_word, request_values}
 use Rattle.arguments.specs.declared.colours.Colours.{Colours}
 use Rattle.arguments.specs.declared.colours.Colours.TheVariants as colours
@@ -32,7 +32,7 @@ use Rattle.arguments.specs.declared.name.CommandName.{CommandName}
 use Rattle.arguments.specs.declared.name.CommandName.TheVariants as name
 use Rattle.arguments.specs.declared.name.TheConstants.{NAMES}
 use Rattle.arguments.specs.declared.request.Request.{Request}
-use Rattle.arguments.specs.declared.request.Request.TheVariants.{Replay, Opener, Compile, Check, Decompile, Diff, Limit, Lookup, LookupLines, Address, AddressLines, Show, Anchors, Picture, Raw, Info, Groups, Risk, FromRaw, Ban, Unban, Banned, Bans, Gen, Trial, Help, Version}
+use Rattle.arguments.specs.declared.request.Request.TheVariants.{Replay, Opener, Compile, Check, Decompile, Diff, Limit, Lookup, LookupLines, Address, AddressLines, Show, Anchors, Picture, Raw, Info, Groups, Risk, RiskLines, FromRaw, Ban, Unban, Banned, Bans, Gen, Trial, Help, Version}
 use Rattle.arguments.specs.declared.tables_from.TablesFrom.{TablesFrom}
 use Rattle.arguments.specs.declared.tables_from.TablesFrom.TheVariants as from
 use Rattle.risk_parts.specs.declared.addr_set.AddrSet.{AddrSet}
@@ -41,10 +41,10 @@ use Rattle.arguments.proofs.BanForms.{one_ban_fields, one_period, one_subnet_in}
 use Rattle.arguments.proofs.OpenerOptions.{one_opener}
 use Rattle.arguments.proofs.WithCore.{no_file_kind, no_listing_kind, no_opening_kind, no_peers, one_file_kind, one_opening_kind, one_peers}
 use Rattle.arguments.proofs.Colourings.{no_colours_kind}
-use Rattle.arguments.proofs.Groupings.{no_grouping_kind}
+use Rattle.arguments.proofs.Groupings.{no_grouping_kind, no_sets_kind}
 use Rattle.arguments.proofs.Marking.{proper_sets}
 use Rattle.arguments.proofs.Names.{name_found, one_command}
-use Rattle.arguments.proofs.WithRaw.{one_colours_tables, one_grouping_tables, one_net_tables}
+use Rattle.arguments.proofs.WithRaw.{one_colours_tables, one_net_tables, one_risk}
 
 -- THE VALUES
 
@@ -101,9 +101,7 @@ one_values Coloured texts v w is h k =
     h.2 ∙ (λ i. TheColours (same.0 i) (same.1 i)) ∙ sym k.2
 one_values Listing texts v w is h k = one_show texts v w h k
 one_values Records texts v w is h k = h.1 ∙ ap TheRecords (one_peers texts h.0 k.0 h.2 k.2) ∙ sym k.1
-one_values Grouped texts v w is h k =
-    let same = one_grouping_tables texts h.0 k.0 h.1 k.1 h.4 k.4 in
-    h.2 ∙ (λ i. TheGroups (same.0 i) (same.1 i)) ∙ sym k.2
+one_values Grouped texts v w is h k = one_risk texts v w h k
 one_values OfSubnet texts v w is h k = one_subnet_in texts v w h k
 one_values Period texts v w is h k = one_period texts v w h k
 one_values (ForBans kinds) texts v w is h k = one_ban_fields kinds texts v w is h k
@@ -135,6 +133,7 @@ request_by name.Raw (TheKind kind) = Raw kind
 request_by name.Info (TheTables from) = Info from
 request_by name.Groups (TheTables from) = Groups from
 request_by name.Risk (TheGroups by from) = Risk by from
+request_by name.Risk (TheKind kind) = RiskLines kind
 request_by name.FromRaw (TheKey key kind) = FromRaw key kind
 request_by name.Ban (ThePeriod rule subnet now until) = Ban rule subnet now until
 request_by name.Unban (TheSubnet rule subnet) = Unban rule subnet
@@ -220,19 +219,6 @@ sets_in : Values → List (Option AddrSet)
 sets_in (TheColours (colours.Marks marks) tables) = marks.sets
 sets_in other = []
 
-takes_in : Values → Bool
-takes_in (TheGroups by (from.Listing chain)) = takes_listing by
-takes_in other = true
-
-takes_some : (by : Grouping) (tables : TablesFrom) → TakesTables tables by → takes_in (TheGroups by tables) ≡ true
-unfolding takes_in
-takes_some by (from.File kind) takes = refl
-takes_some by (from.Listing chain) takes = takes
-
-takes : (texts : List (List ℕ)) (by : Grouping) (chain : Chain) → Reads Grouped texts (TheGroups by (from.Listing chain)) → takes_listing by ≡ true
-unfolding takes_in
-takes texts by chain (other, tables, is, has, chosen) = ap takes_in is ∙ takes_some other tables has
-
 few_lines : (texts : List (List ℕ)) (start lines : ℕ) → Reads (form_of name.Gen) texts (TheFields (TheNumber start ∷ TheNumber lines ∷ [])) → lines ≤ MAX_LINES
 unfolding numbers_in fields_in
 few_lines texts start lines reads = by texts reads.0 (ap fields_in reads.1) reads.2
@@ -273,7 +259,6 @@ module _ (law : (rule : BanRule) (text : List ℕ) (s : Subnet) → IsSubnetText
   proper (Gen start lines) texts reads = few_lines texts start lines reads
   proper (Trial start lines) texts reads = few_lines texts start lines reads
   proper (Picture (colours.Marks marks) tables) texts reads = proper_marks texts marks tables reads
-  proper (Risk by (from.Listing chain)) texts reads = takes texts by chain reads
   proper other texts reads = tt
 
   pub proper_asked : (words : List (List ℕ)) (r : Option Request) → IfSome r (Asks words) → IfSome r IsProperRequest
@@ -340,6 +325,9 @@ module _ (texts rest : List (List ℕ)) (rule : SumRule) (has : HasRule rule res
       (by : Grouping) (kind : FileKind) → IsFileOptions (IsAfterGrouping by) texts kind → ⊥
   no_grouping r is only by kind chosen = no_grouping_kind texts rest rule has none (λ other chain asks. none-some (other, chain) (sym is ∙ only other chain asks)) by kind chosen
 
+  pub no_sets : (r : Option Chain) → r ≡ None → ((chain : Chain) → IsAfterDash rest chain → r ≡ Some chain) → (kind : FileKind) → IsFileOptions IsAfterDash texts kind → ⊥
+  no_sets r is only kind chosen = no_sets_kind texts rest rule has none (λ chain asks. none-some chain (sym is ∙ only chain asks)) kind chosen
+
   pub no_colours : (r : Option (Colours × Chain)) → r ≡ None → ((x : Colours) (chain : Chain) → IsAfterColouring x rest chain → r ≡ Some (x, chain)) →
       (x : Colours) (kind : FileKind) → IsFileOptions (IsAfterColouring x) texts kind → ⊥
   no_colours r is only x kind chosen = no_colours_kind texts rest rule has none (λ other chain asks. none-some (other, chain) (sym is ∙ only other chain asks)) x kind chosen
@@ -347,7 +335,3 @@ module _ (texts rest : List (List ℕ)) (rule : SumRule) (has : HasRule rule res
   pub no_records : (r : Option Chain) → (texts ≡ [] → ⊥) → r ≡ None → ((chain : Chain) → IsAfterPeers rest chain → r ≡ Some chain) → HasNoValues Records texts
   unfolding HasNoValues
   no_records r some is only v reads = no_peers texts rest rule some has none (λ chain chosen. none-some chain (sym is ∙ only chain chosen)) reads.0 reads.2
-
-pub only_after_peers : (texts : List (List ℕ)) (word : List ℕ) (rest : List (List ℕ)) (r : Option Chain) → texts ≡ word ∷ rest → ((chain : Chain) → IsNet rest chain → r ≡ Some chain) →
-    (chain : Chain) → IsAfterPeers texts chain → r ≡ Some chain
-only_after_peers texts word rest r is only chain asks = only chain (subst (λ ts. IsNet ts chain) (ap (drop 1) (sym asks.1 ∙ is)) asks.2)

@@ -1,5 +1,5 @@
 -- `--anchors`, which no other arguments after `show` begin with.
-use Rattle.std.proofs.Common.{◌≡◌, ◌≢◌, ℕ, Bool, true, false, List, [], ◌∷◌, ◌++◌, codes, drop, get_or, Option, Some, None, inl, inr, ap, sym, subst, arith, ◌∙◌}
+use Rattle.std.proofs.Common.{◌≡◌, ◌≢◌, ℕ, Bool, true, false, List, [], ◌∷◌, ◌++◌, codes, get_or, Option, Some, None, inl, inr, ap, sym, arith, ◌∙◌}
 use Rattle.std.proofs.lemmas.Option.{none-some}
 use Rattle.peers_file.specs.declared.chain.Chain.{Chain}
 use Rattle.placing.specs.declared.sum.SumRule.{SumRule}
@@ -8,7 +8,7 @@ use Rattle.arguments.specs.Options.{HasRule, IsAfterAnchors, IsFileOptions, IsLi
 use Rattle.arguments.specs.Table.{HasNoValues, Listing, Reads, TheAnchors, TheListing, Values}
 use Rattle.arguments.specs.declared.chain_option.ChainOption.TheVariants.{Net, Magic}
 use Rattle.arguments.specs.declared.file_kind.FileKind.{FileKind}
-use Rattle.arguments.proofs.Choosing.{one_net, third, third_is, third_of_none}
+use Rattle.arguments.proofs.Choosing.{one_after_word, third, third_is, third_of_none}
 use Rattle.arguments.proofs.WithCore.{one_listing_kind}
 
 -- the third byte of the first word
@@ -40,20 +40,13 @@ of_rule Bits keyed texts rest chain has listing = λ is. omega (arith, is, ap st
 apart : (texts : List (List ℕ)) (keyed : Bool) (kind : FileKind) (chain : Chain) → IsFileOptions (IsListingOptions keyed) texts kind → IsAfterAnchors texts chain → ⊥
 apart texts keyed kind chain (rest, has, listing) (left, first, net) = of_rule kind.rule keyed texts rest kind.chain has listing (of_anchors texts left first)
 
-one_anchors : (texts : List (List ℕ)) (a b : Chain) → IsAfterAnchors texts a → IsAfterAnchors texts b → a ≡ b
-one_anchors texts a b h k = one_net k.0 a b (subst (λ ts. IsNet ts a) (ap (drop 1) (sym h.1 ∙ k.1)) h.2) k.2
-
 pub one_show : (texts : List (List ℕ)) (v w : Values) → Reads Listing texts v → Reads Listing texts w → v ≡ w
 one_show texts v w (inl h) (inl k) =
     let same = one_listing_kind texts h.0 k.0 h.1 k.1 h.3 k.3 in
     h.2 ∙ (λ i. TheListing (same.0 i) (same.1 i)) ∙ sym k.2
 one_show texts v w (inl h) (inr k) = absurd (apart texts h.0 h.1 k.0 h.3 k.2)
 one_show texts v w (inr h) (inl k) = absurd (apart texts k.0 k.1 h.0 k.3 h.2)
-one_show texts v w (inr h) (inr k) = h.1 ∙ ap TheAnchors (one_anchors texts h.0 k.0 h.2 k.2) ∙ sym k.1
-
-pub only_after_anchors : (texts : List (List ℕ)) (word : List ℕ) (rest : List (List ℕ)) (r : Option Chain) → texts ≡ word ∷ rest → ((chain : Chain) → IsNet rest chain → r ≡ Some chain) →
-    (chain : Chain) → IsAfterAnchors texts chain → r ≡ Some chain
-only_after_anchors texts word rest r is only chain asks = only chain (subst (λ ts. IsNet ts chain) (ap (drop 1) (sym asks.1 ∙ is)) asks.2)
+one_show texts v w (inr h) (inr k) = h.1 ∙ ap TheAnchors (one_after_word (codes "--anchors") texts h.0 k.0 h.2 k.2) ∙ sym k.1
 
 -- arguments that ask for no anchors and list no peers.dat
 pub no_show : (texts : List (List ℕ)) (r : Option Chain) → r ≡ None → ((chain : Chain) → IsAfterAnchors texts chain → r ≡ Some chain) →

@@ -12,7 +12,7 @@ use Rattle.hex.specs.declared.error.FromHexError.{FromHexError}
 use Rattle.peers_file.specs.declared.chain.Chain.{Chain}
 use Rattle.peers_file.specs.declared.chain.Chain.TheVariants.{Main, Test, Testnet4, Signet, Regtest, Other}
 use Rattle.arguments.specs.Inside.{Begins}
-use Rattle.arguments.specs.Options.{HasNoKey, IsChainValue, IsKey, IsKeyOption, IsListingOptions, IsMagic, IsName, IsNet, IsOpeningOptions, IsOption, IsRaw, chain_option}
+use Rattle.arguments.specs.Options.{HasNoKey, IsAfterWord, IsChainValue, IsKey, IsKeyOption, IsListingOptions, IsMagic, IsName, IsNet, IsOpeningOptions, IsOption, IsRaw, chain_option}
 use Rattle.arguments.specs.declared.chain_option.ChainOption.{ChainOption}
 use Rattle.arguments.specs.declared.chain_option.ChainOption.TheVariants.{Net, Magic}
 
@@ -264,6 +264,13 @@ one_net texts a b (inl h) (inl k) = h.1 ∙ sym k.1
 one_net texts a b (inl h) (inr (by, value, means, option)) = absurd (omega (arith, third_of_none texts h.0, third_of_net by value [] texts option))
 one_net texts a b (inr (by, value, means, option)) (inl k) = absurd (omega (arith, third_of_none texts k.0, third_of_net by value [] texts option))
 one_net texts a b (inr (by, value, means, option)) (inr (other, next, is, start)) = same_choice by other value next [] [] texts a b option start means is
+
+pub one_after_word : (word : List ℕ) (texts : List (List ℕ)) (a b : Chain) → IsAfterWord word texts a → IsAfterWord word texts b → a ≡ b
+one_after_word word texts a b h k = one_net k.0 a b (subst (λ ts. IsNet ts a) (ap (drop 1) (sym h.1 ∙ k.1)) h.2) k.2
+
+pub only_after_word : (texts : List (List ℕ)) (word first : List ℕ) (rest : List (List ℕ)) (r : Option Chain) → texts ≡ first ∷ rest → ((chain : Chain) → IsNet rest chain → r ≡ Some chain)
+    → (chain : Chain) → IsAfterWord word texts chain → r ≡ Some chain
+only_after_word texts word first rest r is only chain asks = only chain (subst (λ ts. IsNet ts chain) (ap (drop 1) (sym asks.1 ∙ is)) asks.2)
 
 -- or one key
 one_key_option : (texts : List (List ℕ)) (k l : Option (List ℕ)) → IsKeyOption texts k → IsKeyOption texts l → k ≡ l

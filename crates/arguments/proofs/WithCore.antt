@@ -6,7 +6,7 @@ use Rattle.placing.specs.declared.sum.SumRule.{SumRule}
 use Rattle.placing.specs.declared.sum.SumRule.TheVariants.{Bytes, Bits}
 use Rattle.arguments.specs.Options.{HasRule, IsAfterPeers, IsFileOptions, IsListingOptions, IsNet, IsOpeningOptions, IsPeersOption}
 use Rattle.arguments.specs.declared.file_kind.FileKind.{FileKind}
-use Rattle.arguments.proofs.Choosing.{Chooses, chosen, one_listing, one_net, one_opening, third_of_net, third_of_none}
+use Rattle.arguments.proofs.Choosing.{Chooses, chosen, one_after_word, one_listing, one_net, one_opening, third_of_net, third_of_none}
 use Rattle.arguments.proofs.Choosing.Chooses.{neither, key_first, net_first}
 
 third_is : (texts rest : List (List ℕ)) → texts ≡ codes "--core" ∷ rest → get_or (get_or texts 0 []) 2 0 ≡ 99
@@ -96,7 +96,7 @@ module _ (IsChosen : List (List ℕ) → Chain → Type 0) (one : (texts : List 
   one_file : (texts : List (List ℕ)) (a b : FileKind) → IsFileOptions IsChosen texts a → IsFileOptions IsChosen texts b → a ≡ b
   one_file texts a b h k = (one_kind {X = ⊤} (λ x ts c. IsChosen ts c) (λ ts x y c d p q. (refl, one ts c d p q)) (λ x ts rest c is p. apart ts rest c is p) texts tt tt a b h k).1
 
-  not_file : (words rest : List (List ℕ)) (r : SumRule) → HasRule r rest words → (r ≡ Bytes → (tail : List (List ℕ)) → words ≡ codes "--core" ∷ tail → ⊥)
+  pub not_file : (words rest : List (List ℕ)) (r : SumRule) → HasRule r rest words → (r ≡ Bytes → (tail : List (List ℕ)) → words ≡ codes "--core" ∷ tail → ⊥)
       → ((c : Chain) → IsChosen rest c → ⊥) → (kind : FileKind) → IsFileOptions IsChosen words kind → ⊥
   not_file words rest r h none never kind is =
       not_read {X = ⊤} (λ x ts c. IsChosen ts c) (λ ts x y c d p q. (refl, one ts c d p q)) (λ x ts left c e p. apart ts left c e p) words rest r h none (λ x c p. never c p) tt kind is
@@ -108,9 +108,6 @@ pub no_file_kind : (words rest : List (List ℕ)) (r : SumRule) → HasRule r re
     → ((c : Chain) → IsNet rest c → ⊥) → (kind : FileKind) → IsFileOptions IsNet words kind → ⊥
 no_file_kind words rest r h none never kind is = not_file IsNet one_net apart_net words rest r h none never kind is
 
-one_after_peers : (texts : List (List ℕ)) (a b : Chain) → IsAfterPeers texts a → IsAfterPeers texts b → a ≡ b
-one_after_peers texts a b h k = one_net k.0 a b (subst (λ ts. IsNet ts a) (ap (drop 1) (sym h.1 ∙ k.1)) h.2) k.2
-
 -- options begin with an argument
 some_options : (texts : List (List ℕ)) (r : SumRule) (rest : List (List ℕ)) (chain : Chain) → texts ≡ [] → HasRule r rest texts → IsAfterPeers rest chain → ⊥
 some_options texts Bytes rest chain none is (left, peers, net) = omega (arith, ap length (sym none ∙ is ∙ peers))
@@ -120,9 +117,9 @@ pub one_peers : (texts : List (List ℕ)) (a b : Option FileKind) → IsPeersOpt
 one_peers texts None None h k = refl
 one_peers texts None (Some b) h (rest, is, after) = absurd (some_options texts b.rule rest b.chain h is after)
 one_peers texts (Some a) None (rest, is, after) k = absurd (some_options texts a.rule rest a.chain k is after)
-one_peers texts (Some a) (Some b) h k = ap Some (one_file IsAfterPeers one_after_peers apart_peers texts a b h k)
+one_peers texts (Some a) (Some b) h k = ap Some (one_file IsAfterPeers (one_after_word (codes "--peers")) apart_peers texts a b h k)
 
 pub no_peers : (words rest : List (List ℕ)) (r : SumRule) → (words ≡ [] → ⊥) → HasRule r rest words → (r ≡ Bytes → (tail : List (List ℕ)) → words ≡ codes "--core" ∷ tail → ⊥)
     → ((c : Chain) → IsAfterPeers rest c → ⊥) → (peers : Option FileKind) → IsPeersOption words peers → ⊥
 no_peers words rest r some h none never None is = some is
-no_peers words rest r some h none never (Some kind) is = not_file IsAfterPeers one_after_peers apart_peers words rest r h none never kind is
+no_peers words rest r some h none never (Some kind) is = not_file IsAfterPeers (one_after_word (codes "--peers")) apart_peers words rest r h none never kind is

@@ -1,12 +1,12 @@
 -- `--raw -` before the other options, which do not begin with it.
 use Rattle.std.proofs.Common.{◌≡◌, ℕ, List, [], ◌∷◌, codes, Option, Some, None, inl, inr, refl, sym, ap, subst, ◌∙◌, arith}
-use Rattle.std.specs.Prelude.{⊤, true}
+use Rattle.std.specs.Prelude.{⊤, unwrap_or}
 use Rattle.std.proofs.lemmas.Option.{none-some}
 use Rattle.peers_file.specs.declared.chain.Chain.{Chain}
 use Rattle.placing.specs.declared.sum.SumRule.{SumRule}
 use Rattle.placing.specs.declared.sum.SumRule.TheVariants.{Bytes, Bits}
-use Rattle.arguments.specs.Options.{HasRule, IsAfterColouring, IsAfterGrouping, IsFileOptions, IsNet, IsRaw, IsTables, takes_listing}
-use Rattle.arguments.specs.Table.{Coloured, Grouped, HasNoValues, Network, Tables, TheKind}
+use Rattle.arguments.specs.Options.{HasRule, IsAfterColouring, IsAfterDash, IsAfterGrouping, IsFileOptions, IsNet, IsRaw, IsTables}
+use Rattle.arguments.specs.Table.{Coloured, Grouped, HasNoValues, Network, Reads, Tables, TheGroups, TheKind, Values}
 use Rattle.arguments.specs.declared.colours.Colours.{Colours}
 use Rattle.arguments.specs.declared.file_kind.FileKind.{FileKind}
 use Rattle.arguments.specs.declared.grouping.Grouping.{Grouping}
@@ -14,7 +14,7 @@ use Rattle.arguments.specs.declared.tables_from.TablesFrom.{TablesFrom}
 use Rattle.arguments.specs.declared.tables_from.TablesFrom.TheVariants.{File, Listing}
 use Rattle.arguments.proofs.Choosing.{one_net, same_start, third_of_none, third_of_raw}
 use Rattle.arguments.proofs.Colourings.{apart_colours, one_colours, raw_or_colours}
-use Rattle.arguments.proofs.Groupings.{apart_after, one_after, raw_or_grouping}
+use Rattle.arguments.proofs.Groupings.{IsAfterChoice, apart_after, one_after, raw_or_choice}
 use Rattle.arguments.proofs.Marking.{third_at_most, third_byte}
 use Rattle.arguments.proofs.WithCore.{apart_net, one_kind}
 
@@ -93,17 +93,28 @@ pub no_filed_colours : (texts : List (List ℕ)) → ((rest : List (List ℕ)) �
 unfolding HasNoValues
 no_filed_colours texts off none v (x, from, is, tables) = not_filed IsAfterColouring texts off none x from tables
 
--- what makes records one group is chosen, too
-pub one_grouping_tables : (texts : List (List ℕ)) (x y : Grouping) (a b : TablesFrom) → IsTables (IsAfterGrouping x) texts a → IsTables (IsAfterGrouping y) texts b → (x ≡ y) × (a ≡ b)
-one_grouping_tables texts x y a b h k = one_tables IsAfterGrouping one_after apart_after raw_or_grouping texts x y a b h k
+-- what comes after `risk` is chosen, too
+pub one_choice_tables : (texts : List (List ℕ)) (x y : Option Grouping) (a b : TablesFrom) → IsTables (IsAfterChoice x) texts a → IsTables (IsAfterChoice y) texts b → (x ≡ y) × (a ≡ b)
+one_choice_tables texts x y a b h k = one_tables IsAfterChoice one_after apart_after raw_or_choice texts x y a b h k
 
-pub no_listed_grouping : (texts rest : List (List ℕ)) → IsRaw rest texts → ((by : Grouping) (chain : Chain) → takes_listing by ≡ true → IsAfterGrouping by rest chain → ⊥) → HasNoValues Grouped texts
+pub one_risk : (texts : List (List ℕ)) (v w : Values) → Reads Grouped texts v → Reads Grouped texts w → v ≡ w
+one_risk texts v w (inl h) (inl k) =
+    let same = one_choice_tables texts (Some h.0) (Some k.0) h.1 k.1 h.3 k.3 in
+    h.2 ∙ (λ i. TheGroups (unwrap_or (same.0 i) h.0) (same.1 i)) ∙ sym k.2
+one_risk texts v w (inl h) (inr k) = absurd (none-some h.0 (sym (one_choice_tables texts (Some h.0) None h.1 (File k.0) h.3 k.2).0))
+one_risk texts v w (inr h) (inl k) = absurd (none-some k.0 (one_choice_tables texts None (Some k.0) (File h.0) k.1 h.2 k.3).0)
+one_risk texts v w (inr h) (inr k) = h.1 ∙ ap TheKind (one_kind IsAfterChoice one_after apart_after texts None None h.0 k.0 h.2 k.2).1 ∙ sym k.1
+
+pub no_listed_grouping : (texts rest : List (List ℕ)) (r : Option (Grouping × Chain)) → IsRaw rest texts → r ≡ None
+    → ((by : Grouping) (chain : Chain) → IsAfterGrouping by rest chain → r ≡ Some (by, chain)) → HasNoValues Grouped texts
 unfolding HasNoValues
-no_listed_grouping texts rest raw never v (by, File kind, is, takes, tables) = raw_or_file IsAfterGrouping one_after apart_after raw_or_grouping texts rest by kind raw tables
-no_listed_grouping texts rest raw never v (by, Listing chain, is, takes, (left, also, p)) =
-    never by chain takes (subst (λ ts. IsAfterGrouping by ts chain) (same_start (codes "--raw") (codes "-") (codes "-") left rest texts also raw).1 p)
+no_listed_grouping texts rest r raw none only v (inl (by, File kind, is, tables)) = raw_or_file IsAfterChoice one_after apart_after raw_or_choice texts rest (Some by) kind raw tables
+no_listed_grouping texts rest r raw none only v (inl (by, Listing chain, is, (left, also, p))) =
+    none-some (by, chain) (sym none ∙ only by chain (subst (λ ts. IsAfterGrouping by ts chain) (same_start (codes "--raw") (codes "-") (codes "-") left rest texts also raw).1 p))
+no_listed_grouping texts rest r raw none only v (inr (kind, is, tables)) = raw_or_file IsAfterChoice one_after apart_after raw_or_choice texts rest None kind raw tables
 
-pub no_filed_grouping : (texts : List (List ℕ)) → ((rest : List (List ℕ)) → IsRaw rest texts → ⊥)
+pub no_filed_grouping : (texts : List (List ℕ)) → ((rest : List (List ℕ)) → IsRaw rest texts → ⊥) → ((kind : FileKind) → IsFileOptions IsAfterDash texts kind → ⊥)
     → ((by : Grouping) (kind : FileKind) → IsFileOptions (IsAfterGrouping by) texts kind → ⊥) → HasNoValues Grouped texts
 unfolding HasNoValues
-no_filed_grouping texts off none v (by, from, is, takes, tables) = not_filed IsAfterGrouping texts off none by from tables
+no_filed_grouping texts off no_sets none v (inl (by, from, is, tables)) = not_filed IsAfterGrouping texts off none by from tables
+no_filed_grouping texts off no_sets none v (inr (kind, is, tables)) = no_sets kind tables

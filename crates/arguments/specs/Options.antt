@@ -20,7 +20,7 @@ use Rattle.arguments.specs.declared.colours.Colours.{Colours}
 use Rattle.arguments.specs.declared.colours.Colours.TheVariants as colours
 use Rattle.arguments.specs.declared.file_kind.FileKind.{FileKind}
 use Rattle.arguments.specs.declared.grouping.Grouping.{Grouping}
-use Rattle.arguments.specs.declared.grouping.Grouping.TheVariants.{Source, Peer, Network, Sets}
+use Rattle.arguments.specs.declared.grouping.Grouping.TheVariants.{Source, Peer, Network}
 use Rattle.arguments.specs.declared.marks.Marks.{Marks}
 use Rattle.arguments.specs.declared.marks.TheConstants.{MAX_MARKS}
 use Rattle.arguments.specs.declared.tables_from.TablesFrom.{TablesFrom}
@@ -90,27 +90,32 @@ IsOpeningOptions key options chain =
     (first : List (List ℕ)) × (second : List (List ℕ)) × (options ≡ first ++ second) ×
     ((IsKeyOption first key × IsNet second chain) ⊎ (IsNet first chain × IsKeyOption second key))
 
+-- the arguments begin with a word, and the others choose a chain
+abbrev pub IsAfterWord : List ℕ → List (List ℕ) → Chain → Type 0
+IsAfterWord word options chain =
+    (rest : List (List ℕ)) × (options ≡ word ∷ rest) × IsNet rest chain
+
 -- the arguments ask for the records of a file of this chain
 abbrev pub IsAfterPeers : List (List ℕ) → Chain → Type 0
-IsAfterPeers options chain =
-    (rest : List (List ℕ)) × (options ≡ codes "--peers" ∷ rest) × IsNet rest chain
+IsAfterPeers options chain = IsAfterWord (codes "--peers") options chain
 
 -- the arguments ask for the anchors in a file of this chain
 abbrev pub IsAfterAnchors : List (List ℕ) → Chain → Type 0
-IsAfterAnchors options chain =
-    (rest : List (List ℕ)) × (options ≡ codes "--anchors" ∷ rest) × IsNet rest chain
+IsAfterAnchors options chain = IsAfterWord (codes "--anchors") options chain
 
 -- what makes records one group, as people write it
 abbrev pub grouping_word : Grouping → List ℕ
 grouping_word Source = codes "source"
 grouping_word Peer = codes "peer"
 grouping_word Network = codes "network"
-grouping_word Sets = codes "-"
 
 -- the arguments ask for groups of the records of a file of this chain
 abbrev pub IsAfterGrouping : Grouping → List (List ℕ) → Chain → Type 0
-IsAfterGrouping by options chain =
-    (rest : List (List ℕ)) × (options ≡ grouping_word by ∷ rest) × IsNet rest chain
+IsAfterGrouping by options chain = IsAfterWord (grouping_word by) options chain
+
+-- the arguments ask for the sets that the log names, of the records of a file of this chain
+abbrev pub IsAfterDash : List (List ℕ) → Chain → Type 0
+IsAfterDash options chain = IsAfterWord (codes "-") options chain
 
 -- what the colours of a picture go by, as people write it
 abbrev pub colouring_word : Colouring → List ℕ
@@ -174,23 +179,13 @@ IsTables IsChosen options (from.File kind) = IsFileOptions IsChosen options kind
 IsTables IsChosen options (from.Listing chain) =
     (rest : List (List ℕ)) × IsRaw rest options × IsChosen rest chain
 
--- whether a listing can be in the place of peers.dat: standard input has one thing, the listing or
--- the lines that name sets
-abbrev pub takes_listing : Grouping → Bool
-takes_listing Sets = false
-takes_listing other = true
-
-abbrev pub TakesTables : TablesFrom → Grouping → Type 0
-TakesTables (from.Listing chain) by = takes_listing by ≡ true
-TakesTables other by = ⊤
-
 -- the arguments ask for the records of a file of this kind, or for none
 abbrev pub IsPeersOption : List (List ℕ) → Option FileKind → Type 0
 IsPeersOption options None = options ≡ []
 IsPeersOption options (Some kind) = IsFileOptions IsAfterPeers options kind
 
--- the arguments begin with `--core`, which has a list of bans read and written as Bitcoin Core does,
--- or do not; the others are the rest
+-- the arguments begin with `--core`, which has a list of bans read and written as Bitcoin Core
+-- does, or do not; the others are the rest
 abbrev pub HasBanRule : BanRule → List (List ℕ) → List (List ℕ) → Type 0
 HasBanRule Labels rest options = options ≡ rest
 HasBanRule Names rest options = options ≡ codes "--core" ∷ rest

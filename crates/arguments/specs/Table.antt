@@ -1,5 +1,5 @@
 -- The table of the commands, and what arguments ask for.
-use Rattle.std.specs.Prelude.{◌≡◌, ◌≢◌, ◌⊎◌, ◌<◌, ◌≤◌, ℕ, Bool, true, List, [], ◌∷◌, Option, Some, None, codes, decimal, bytes_eq, if◌then◌else◌, ⊤}
+use Rattle.std.specs.Prelude.{◌≡◌, ◌≢◌, ◌⊎◌, ◌<◌, ◌≤◌, ℕ, Bool, List, [], ◌∷◌, Option, Some, None, codes, decimal, bytes_eq, if◌then◌else◌, ⊤}
 use Rattle.ban_list.specs.BanFile.{max_time}
 use Rattle.ban_list.specs.Subnet.{IsProper}
 use Rattle.ban_list.specs.SubnetText.{IsSubnetTextBy}
@@ -11,7 +11,7 @@ use Rattle.names.specs.Text.{IsTextOf}
 use Rattle.net_addr.specs.Address.{Address as NetAddress}
 use Rattle.net_addr.specs.declared.peer.Peer.{Peer}
 use Rattle.peers_file.specs.declared.chain.Chain.{Chain}
-use Rattle.arguments.specs.Options.{HasBanRule, IsAfterAnchors, IsAfterColouring, IsAfterGrouping, IsFileOptions, IsListingOptions, IsNet, IsOpenerOptions, IsOpeningOptions, IsPeersOption, IsTables, TakesTables, takes_listing}
+use Rattle.arguments.specs.Options.{HasBanRule, IsAfterAnchors, IsAfterColouring, IsAfterDash, IsAfterGrouping, IsFileOptions, IsListingOptions, IsNet, IsOpenerOptions, IsOpeningOptions, IsPeersOption, IsTables}
 use Rattle.arguments.specs.declared.colours.Colours.{Colours}
 use Rattle.arguments.specs.declared.colours.Colours.TheVariants as colours
 use Rattle.arguments.specs.declared.file_kind.FileKind.{FileKind}
@@ -19,10 +19,9 @@ use Rattle.arguments.specs.declared.grouping.Grouping.{Grouping}
 use Rattle.arguments.specs.declared.name.CommandName.{CommandName}
 use Rattle.arguments.specs.declared.name.CommandName.TheVariants as name
 use Rattle.arguments.specs.declared.request.Request.{Request}
-use Rattle.arguments.specs.declared.request.Request.TheVariants.{Replay, Opener, Compile, Check, Decompile, Diff, Limit, Lookup, LookupLines, Address, AddressLines, Show, Anchors, Picture, Raw, Info, Groups, Risk, FromRaw, Ban, Unban, Banned, Bans, Gen, Trial, Help, Version}
+use Rattle.arguments.specs.declared.request.Request.TheVariants.{Replay, Opener, Compile, Check, Decompile, Diff, Limit, Lookup, LookupLines, Address, AddressLines, Show, Anchors, Picture, Raw, Info, Groups, Risk, RiskLines, FromRaw, Ban, Unban, Banned, Bans, Gen, Trial, Help, Version}
 use Rattle.arguments.specs.declared.tables_from.TablesFrom.{TablesFrom}
 use Rattle.peer_open.specs.declared.rules.OpenRules.{OpenRules}
-use Rattle.arguments.specs.declared.tables_from.TablesFrom.TheVariants as from
 use Rattle.risk_parts.specs.Sets.{IsProperSet}
 use Rattle.risk_parts.specs.declared.addr_set.AddrSet.{AddrSet}
 
@@ -76,11 +75,11 @@ NameCommand texts (Some name) = texts ≡ command_word name ∷ []
 -- without `--key`; only `--net`; the same, or `--raw -` before it; these with `--by` before
 -- `--net`, or with `--mark` and sets at the end; `--net` and `--no-key`, or `--anchors` and
 -- `--net`; `--peers` and `--net`, or nothing; what makes records one group, and `--net`, or
--- `--raw -` before these; a subnet; a subnet and two times, the earlier one first; fields of these
--- kinds for a list of bans; the name of a command or nothing; `-` or a peer; or `-`, or else what
--- people write for an address. `--magic` with digits may be in the place of `--net`. `--core` may be
--- before all options of a file, but not beside `--raw -` or `--anchors`, and before what is for a
--- list of bans.
+-- `--raw -` before these, or `-` and `--net`; a subnet; a subnet and two times, the earlier one
+-- first; fields of these kinds for a list of bans; the name of a command or nothing; `-` or a peer;
+-- or `-`, or else what people write for an address. `--magic` with digits may be in the place of
+-- `--net`. `--core` may be before all options of a file, but not beside `--raw -` or `--anchors`,
+-- and before what is for a list of bans.
 pub data Form : Type 0 where
   Fields : List Kind → Form
   Opening : Form
@@ -158,8 +157,9 @@ Reads Listing texts v =
 Reads Records texts v =
     (peers : Option FileKind) × (v ≡ TheRecords peers) × IsPeersOption texts peers
 Reads Grouped texts v =
-    (by : Grouping) × (from : TablesFrom) × (v ≡ TheGroups by from) × TakesTables from by
-    × IsTables (IsAfterGrouping by) texts from
+    ((by : Grouping) × (from : TablesFrom) × (v ≡ TheGroups by from)
+    × IsTables (IsAfterGrouping by) texts from)
+    ⊎ ((kind : FileKind) × (v ≡ TheKind kind) × IsFileOptions IsAfterDash texts kind)
 Reads OfSubnet texts v =
     (rule : BanRule) × (rest : List (List ℕ)) × (subnet : Subnet) × (v ≡ TheSubnet rule subnet)
     × HasBanRule rule rest texts × IsSubnetIn rule rest subnet
@@ -229,6 +229,7 @@ name_of (Raw kind) = name.Raw
 name_of (Info from) = name.Info
 name_of (Groups from) = name.Groups
 name_of (Risk by from) = name.Risk
+name_of (RiskLines kind) = name.Risk
 name_of (FromRaw key kind) = name.FromRaw
 name_of (Ban rule subnet now until) = name.Ban
 name_of (Unban rule subnet) = name.Unban
@@ -252,6 +253,7 @@ request_values (Raw kind) = TheKind kind
 request_values (Info from) = TheTables from
 request_values (Groups from) = TheTables from
 request_values (Risk by from) = TheGroups by from
+request_values (RiskLines kind) = TheKind kind
 request_values (FromRaw key kind) = TheKey key kind
 request_values (Diff peers) = TheRecords peers
 request_values (Ban rule subnet now until) = ThePeriod rule subnet now until
@@ -278,13 +280,12 @@ AreProperSets [] = ⊤
 AreProperSets (None ∷ sets) = AreProperSets sets
 AreProperSets (Some set ∷ sets) = IsProperSet set × AreProperSets sets
 
--- the subnet of a request, if it has one, is proper, and so are the sets of a picture; groups of a
--- listing are not named by sets; a generated log is within its limit
+-- the subnet of a request, if it has one, is proper, and so are the sets of a picture; a generated
+-- log is within its limit
 abbrev pub IsProperRequest : Request → Type 0
 IsProperRequest (Ban rule subnet now until) = IsProper subnet
 IsProperRequest (Unban rule subnet) = IsProper subnet
 IsProperRequest (Gen start lines) = lines ≤ MAX_LINES
 IsProperRequest (Trial start lines) = lines ≤ MAX_LINES
 IsProperRequest (Picture (colours.Marks marks) from) = AreProperSets marks.sets
-IsProperRequest (Risk by (from.Listing chain)) = takes_listing by ≡ true
 IsProperRequest other = ⊤

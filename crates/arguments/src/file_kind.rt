@@ -1,5 +1,5 @@
 ghost use Rattle.std.specs.Prelude.{◌≡◌, ◌≢◌, ℕ, Bool, List, ◌∷◌, codes, map, string_bytes, IfSome, IfNone};
-ghost use Rattle.arguments.specs.Options.{HasRule, IsAfterColouring, IsAfterGrouping, IsFileOptions, IsListingOptions, IsNet, IsOpeningOptions, IsPeersOption};
+ghost use Rattle.arguments.specs.Options.{HasRule, IsAfterColouring, IsAfterDash, IsAfterGrouping, IsFileOptions, IsListingOptions, IsNet, IsOpeningOptions, IsPeersOption};
 ghost use Rattle.arguments.specs.Table.{HasNoValues, Keyed, Network, Opening, Reads, Records, name_of, request_values};
 ghost use Rattle.arguments.specs.declared.colours.Colours.{Colours};
 ghost use Rattle.arguments.specs.declared.file_kind.FileKind.{FileKind};
@@ -9,7 +9,7 @@ ghost use Rattle.placing.specs.declared.sum.SumRule.TheVariants.{Bytes};
 
 use crate::colours::read_colours;
 use crate::grouping::read_after_grouping;
-use crate::options::{after_flag, read_after_peers, read_listing, read_net, read_opening};
+use crate::options::{after_flag, read_after_word, read_listing, read_net, read_opening};
 use crate::{Colours, Grouping, Request};
 use peers_file::Chain;
 use placing::SumRule;
@@ -95,8 +95,8 @@ pub(crate) fn read_keyed_kind(words: &[String]) -> Option<Request>
     }
 }
 
-/// Reads the arguments after `risk` for a file: `--core`, and after it what makes records one group, and the
-/// arguments that choose a chain.
+/// Reads the arguments after `risk` for a file: `--core`, and after it what makes records one
+/// group, and the arguments that choose a chain.
 pub(crate) fn read_grouping_kind(words: &[String]) -> Option<(Grouping, FileKind)>
     ensures found { IfSome result (λ o.
         IsFileOptions (IsAfterGrouping o.0) (map string_bytes words.now) o.1) }
@@ -106,6 +106,20 @@ pub(crate) fn read_grouping_kind(words: &[String]) -> Option<(Grouping, FileKind
     let (rule, rest) = cut_rule(words);
     match read_after_grouping(rest) {
         Some((by, chain)) => Some((by, FileKind { chain, rule })),
+        None => None,
+    }
+}
+
+/// Reads the arguments after `risk` that have sets read from the log: `--core`, and after it `-`
+/// and the arguments that choose a chain.
+pub(crate) fn read_sets_kind(words: &[String]) -> Option<FileKind>
+    ensures found { IfSome result (IsFileOptions IsAfterDash (map string_bytes words.now)) }
+    ensures none { IfNone result ((kind : FileKind) →
+        ¬ IsFileOptions IsAfterDash (map string_bytes words.now) kind) }
+{
+    let (rule, rest) = cut_rule(words);
+    match read_after_word(rest, b"-") {
+        Some(chain) => Some(FileKind { chain, rule }),
         None => None,
     }
 }
@@ -134,7 +148,7 @@ pub(crate) fn read_records(words: &[String]) -> Option<Option<FileKind>>
         return Some(None);
     }
     let (rule, rest) = cut_rule(words);
-    match read_after_peers(rest) {
+    match read_after_word(rest, b"--peers") {
         Some(chain) => Some(Some(FileKind { chain, rule })),
         None => None,
     }

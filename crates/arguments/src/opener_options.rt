@@ -34,7 +34,7 @@ fn cut_exempt(words: &[String]) -> Option<(NetSet, &[String])>
 
 /// Cuts `--services` and the number after it off the arguments that begin with it, and returns the
 /// number and the rest: 0 and all arguments without it, and `None` if it is wrong.
-#[tactic(auto, using(crate::proofs::OpenerOptions::rest_after, crate::proofs::OpenerOptions::found_number, crate::proofs::OpenerOptions::no_number))]
+#[tactic(auto, using(crate::proofs::OpenerOptions::rest_after))]
 fn cut_services(words: &[String]) -> Option<(u64, &[String])>
     ensures found { IfSome result (λ o. HasOption (codes "--services") u64_field (TheNumber 0)
         (TheNumber o.0) (map string_bytes o.1.now) (map string_bytes words.now)) }
@@ -67,9 +67,9 @@ fn cut_port_rule(words: &[String]) -> (bool, &[String])
     }
 }
 
-/// Reads the arguments after `opener`: those that choose rules of Bitcoin Core, and after them those
-/// that say how tables are opened.
-#[tactic(auto, using(crate::proofs::OpenerOptions::no_exempt, crate::proofs::OpenerOptions::no_services, crate::proofs::OpenerOptions::no_opener))]
+/// Reads the arguments after `opener`: those that choose rules of Bitcoin Core, and after them
+/// those that say how tables are opened.
+#[tactic(auto, using(crate::proofs::OpenerOptions::no_exempt))]
 pub(crate) fn read_opener(words: &[String]) -> Option<Request>
     ensures found { IfSome result (λ request. (name_of request ≡ name.Opener)
         × Reads Outgoing (map string_bytes words.now) (request_values request)) }

@@ -1,7 +1,7 @@
 ghost use Rattle.std.specs.Prelude.{◌≡◌, ◌≢◌, ℕ, List, [], ◌∷◌, ◌++◌, Bool, false, codes, map, string_bytes, Option, Some, IfSome, IfNone};
 ghost use Rattle.std.specs.Option.{option_map};
 ghost use Rattle.arguments.specs.Inside.{Begins};
-ghost use Rattle.arguments.specs.Options.{HasNoKey, IsAfterAnchors, IsAfterPeers, IsChainValue, IsKey, IsKeyOption, IsListingOptions, IsNet, IsOpeningOptions, IsOption, chain_option};
+ghost use Rattle.arguments.specs.Options.{HasNoKey, IsAfterWord, IsChainValue, IsKey, IsKeyOption, IsListingOptions, IsNet, IsOpeningOptions, IsOption, chain_option};
 ghost use Rattle.arguments.specs.declared.chain_option.ChainOption.{ChainOption};
 ghost use Rattle.peers_file.specs.declared.chain.Chain.{Chain};
 
@@ -161,27 +161,14 @@ fn before_no_key(words: &[String]) -> Option<&[String]>
     None
 }
 
-/// Reads `--peers` and after it the arguments that choose a chain.
-pub(crate) fn read_after_peers(words: &[String]) -> Option<Chain>
-    ensures found { IfSome result (IsAfterPeers (map string_bytes words.now)) }
-    ensures only { (chain : Chain) → IsAfterPeers (map string_bytes words.now) chain →
+/// Reads `word` and after it the arguments that choose a chain.
+pub(crate) fn read_after_word(words: &[String], word: &[u8]) -> Option<Chain>
+    ensures found { IfSome result (IsAfterWord word.now (map string_bytes words.now)) }
+    ensures only { (chain : Chain) → IsAfterWord word.now (map string_bytes words.now) chain →
         result ≡ Some chain }
 {
     let (first, rest) = first_word(words)?;
-    if first == b"--peers".as_slice() {
-        return read_net(rest);
-    }
-    None
-}
-
-/// Reads `--anchors` and after it the arguments that choose a chain.
-pub(crate) fn read_after_anchors(words: &[String]) -> Option<Chain>
-    ensures found { IfSome result (IsAfterAnchors (map string_bytes words.now)) }
-    ensures only { (chain : Chain) → IsAfterAnchors (map string_bytes words.now) chain →
-        result ≡ Some chain }
-{
-    let (first, rest) = first_word(words)?;
-    if first == b"--anchors".as_slice() {
+    if first == word {
         return read_net(rest);
     }
     None

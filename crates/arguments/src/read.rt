@@ -12,7 +12,7 @@ use crate::file_kind::{
 };
 use crate::name::{CommandName, NAMES};
 use crate::opener_options::read_opener;
-use crate::options::{first_word, only_word, read_after_anchors};
+use crate::options::{first_word, only_word, read_after_word};
 use crate::tables_from::{read_picture, read_risk, read_tables};
 use ban_list::{BanRule, texts_have_one_meaning};
 use gen_load::MAX_LINES;
@@ -131,7 +131,7 @@ fn read_show(rest: &[String]) -> Option<Request>
         × Reads Listing (map string_bytes rest.now) (request_values request)) }
     ensures none { IfNone result (HasNoValues Listing (map string_bytes rest.now)) }
 {
-    if let Some(chain) = read_after_anchors(rest) {
+    if let Some(chain) = read_after_word(rest, b"--anchors") {
         return Some(Request::Anchors { chain });
     }
     match read_listing_kind(rest) {

@@ -16,7 +16,8 @@ pub enum Request {
     },
     /// `opener --key HEX64 --net CHAIN`: carry out the lines of a log that also opens, tests and
     /// closes outbound connections, from the tables that a replay with these options begins with.
-    /// With `--exempt NETS`, `--services N` and `--skip-bad-ports` some rules of Bitcoin Core count.
+    /// With `--exempt NETS`, `--services N` and `--skip-bad-ports` some rules of Bitcoin Core
+    /// count.
     Opener {
         rules: OpenRules,
         key: Option<[u8; 32]>,
@@ -53,8 +54,8 @@ pub enum Request {
         keyed: bool,
         kind: FileKind,
     },
-    /// `show --anchors --net CHAIN`: list the anchors in the file that stands in the place of
-    /// peers.dat, an anchors.dat of this chain.
+    /// `show --anchors --net CHAIN`: list the anchors in the file in the place of peers.dat, an
+    /// anchors.dat of this chain.
     Anchors {
         chain: Chain,
     },
@@ -81,11 +82,15 @@ pub enum Request {
     },
     /// `risk source --net CHAIN`, `risk peer` and `risk network`: print which part of the picks
     /// from the tables of peers.dat, a file of this chain, or of a listing, falls to each group, at
-    /// most. `risk -`: print which part of those from peers.dat falls to each set of addresses that
-    /// a line of the log names, and to all of them.
+    /// most.
     Risk {
         by: Grouping,
         from: TablesFrom,
+    },
+    /// `risk - --net CHAIN`: print which part of those from peers.dat, a file of this chain, falls
+    /// to each set of addresses that a line of the log names, and to all of them.
+    RiskLines {
+        kind: FileKind,
     },
     /// `from-raw --key HEX64 --net CHAIN`: read a listing of tables from the log, and save it as
     /// peers.dat, a file of this kind, under this key.

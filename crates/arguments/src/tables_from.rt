@@ -4,8 +4,8 @@ ghost use Rattle.arguments.specs.Table.{Coloured, Grouped, HasNoValues, Reads, T
 ghost use Rattle.arguments.specs.declared.name.CommandName.TheVariants as name;
 
 use crate::colours::read_colours;
-use crate::file_kind::{read_colours_kind, read_file_kind, read_grouping_kind};
-use crate::grouping::read_listed_grouping;
+use crate::file_kind::{read_colours_kind, read_file_kind, read_grouping_kind, read_sets_kind};
+use crate::grouping::read_after_grouping;
 use crate::options::{cut_option, read_net};
 use crate::{FileKind, Request};
 use peers_file::Chain;
@@ -15,7 +15,7 @@ use peers_file::Chain;
 pub enum TablesFrom {
     /// peers.dat, a file of this kind.
     File { kind: FileKind },
-    /// A listing of the tables, as JSON, of this chain, that stands in the place of peers.dat.
+    /// A listing of the tables, as JSON, of this chain, in the place of peers.dat.
     Listing { chain: Chain },
 }
 
@@ -53,8 +53,8 @@ pub(crate) fn read_tables(words: &[String]) -> Option<TablesFrom>
     }
 }
 
-/// Reads the arguments after `picture`: `--raw -` or `--core` or none of them, and after it what the
-/// colours show, and the arguments that choose a chain.
+/// Reads the arguments after `picture`: `--raw -` or `--core` or none of them, and after it what
+/// the colours show, and the arguments that choose a chain.
 pub(crate) fn read_picture(words: &[String]) -> Option<Request>
     ensures found { IfSome result (λ request. (name_of request ≡ name.Picture)
         × Reads Coloured (map string_bytes words.now) (request_values request)) }
@@ -79,20 +79,23 @@ pub(crate) fn read_picture(words: &[String]) -> Option<Request>
 }
 
 /// Reads the arguments after `risk`: `--raw -` or `--core` or none of them, and after it what makes
-/// records one group, and the arguments that choose a chain.
+/// records one group, or `-`, but not after `--raw -`, and the arguments that choose a chain.
 pub(crate) fn read_risk(words: &[String]) -> Option<Request>
     ensures found { IfSome result (λ request. (name_of request ≡ name.Risk)
         × Reads Grouped (map string_bytes words.now) (request_values request)) }
     ensures none { IfNone result (HasNoValues Grouped (map string_bytes words.now)) }
 {
     if let Some(rest) = after_raw(words) {
-        return match read_listed_grouping(rest) {
+        return match read_after_grouping(rest) {
             Some((by, chain)) => Some(Request::Risk {
                 by,
                 from: TablesFrom::Listing { chain },
             }),
             None => None,
         };
+    }
+    if let Some(kind) = read_sets_kind(words) {
+        return Some(Request::RiskLines { kind });
     }
     match read_grouping_kind(words) {
         Some((by, kind)) => Some(Request::Risk {

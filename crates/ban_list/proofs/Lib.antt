@@ -10,5 +10,7 @@ pub mod MeaningLaws
 pub mod Merging
 pub mod Named
 mod OneName
+pub mod NamedLaws
 pub mod NewLaws
+pub mod OldLaws
 pub mod ProperTexts

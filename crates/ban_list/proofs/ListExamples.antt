@@ -1,14 +1,15 @@
 -- Worked examples of lists of bans and of their elements, computed by the checker.
-use Rattle.std.proofs.Common.{◌≡◌, ℕ, List, [], ◌∷◌, codes, true, Option, Some, None, refl}
+use Rattle.std.proofs.Common.{◌≡◌, ℕ, List, [], ◌∷◌, ◌++◌, codes, true, Option, Some, None, refl}
 use Rattle.std.specs.Prelude.{find, negsuc}
 use Rattle.net_addr.specs.OldForm.{address}
 use Rattle.net_addr.specs.Ranges.{in_range}
 use Rattle.net_addr.specs.Same.{same_address}
 use Rattle.net_addr.specs.declared.net.Net.TheVariants.{Ipv4}
-use Rattle.serde_json.specs.Data.{Data, object, member, no_members, number, unsigned, negative, boolean, string, null}
+use Rattle.serde_json.specs.Data.{Data, object, member, no_members, number, unsigned, negative, boolean}
 use Rattle.ban_list.specs.Bans.{put, stops, after_ban, ban_of, current_by, Outcome}
-use Rattle.ban_list.specs.BanFile.{ban_data_by, ban_members, merged, time_at}
-use Rattle.ban_list.specs.NewFile.{element_data, joined, members_at}
+use Rattle.ban_list.specs.BanFile.{merged, time_at}
+use Rattle.json.specs.Json as json
+use Rattle.ban_list.specs.NewFile.{Element, Member, ban_tree, members_of, own_members, with_list}
 use Rattle.ban_list.specs.declared.ban.BanRule.TheVariants.{Labels, Names}
 use Rattle.ban_list.specs.declared.subnet.Subnet.{Subnet}
 use Rattle.ban_list.specs.declared.ban.Ban.{Ban}
@@ -81,19 +82,27 @@ below_zero = refl
 not_a_number : at (boolean true) ≡ None
 not_a_number = refl
 
--- a ban without an old element has its four members
-only_four : (ban : Ban) → element_data [] ban ≡ ban_data_by Names ban
-only_four ban = refl
+-- two elements of 1.2.3.0/24, and one that is no ban between them
+abbrev old : List Element
+old =
+    (json.object (members_of ((codes "version", json.number (codes "1")) ∷ (codes "z", json.number (codes "1.50")) ∷ (codes "a", json.null) ∷ (codes "z", json.boolean true) ∷ [])), Some small)
+    ∷ (json.object (members_of ((codes "b", json.number (codes "-0")) ∷ (codes "a", json.null) ∷ [])), None)
+    ∷ (json.object (members_of ((codes "a", json.number (codes "1E5")) ∷ (codes "address", json.null) ∷ [])), Some small) ∷ []
 
--- what an old element has besides the four stays, each in its place by name
-besides : (text : List ℕ) → joined (member (codes "a") null (member (codes "banned_until") (number (unsigned 1)) (member (codes "zone") (boolean true) no_members))) (ban_members text (ban_of small 5 9))
-    ≡ member (codes "a") null (member (codes "address") (string text) (member (codes "ban_created") (number (unsigned 5)) (member (codes "banned_until") (number (unsigned 9))
-    (member (codes "version") (number (unsigned 1)) (member (codes "zone") (boolean true) no_members)))))
-besides text = refl
+abbrev kept_members : List Member
+kept_members = (codes "z", json.number (codes "1.50")) ∷ (codes "a", json.null) ∷ (codes "z", json.boolean true) ∷ (codes "a", json.number (codes "1E5")) ∷ []
 
--- of two elements of one subnet each has a part in what stays, and of two members of one name the later one
-both : members_at small ((small, member (codes "a") (number (unsigned 1)) (member (codes "b") (number (unsigned 2)) no_members)) ∷ (nine, member (codes "z") null no_members)
-    ∷ (small, member (codes "b") (number (unsigned 3)) (member (codes "c") null no_members)) ∷ [])
-    ≡ member (codes "a") (number (unsigned 1)) (member (codes "b") (number (unsigned 3)) (member (codes "c") null no_members))
+-- a ban has what its elements have besides: in order, each as often as it was there, with its digits
+besides_both : ban_tree old (ban_of small 5 9) ≡ json.object (members_of (own_members (ban_of small 5 9) ++ kept_members))
 unfolding same_address
-both = refl
+besides_both = refl
+
+-- one of another subnet has its four members alone
+only_four : ban_tree old (ban_of nine 5 9) ≡ json.object (members_of (own_members (ban_of nine 5 9)))
+unfolding same_address
+only_four = refl
+
+-- the list is where the first one was, and there is no other one
+in_place : (list : json.Json) → with_list list ((codes "x", json.null) ∷ (codes "banned_nets", json.null) ∷ (codes "b", json.null) ∷ (codes "banned_nets", json.null) ∷ (codes "a", json.null) ∷ [])
+    ≡ (codes "x", json.null) ∷ (codes "banned_nets", list) ∷ (codes "b", json.null) ∷ (codes "a", json.null) ∷ []
+in_place list = refl

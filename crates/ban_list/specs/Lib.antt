@@ -3,4 +3,5 @@ pub mod SubnetText
 pub mod Bans
 pub mod BanFile
 pub mod NewFile
+pub mod OldFile
 pub mod FaultTexts

@@ -1,19 +1,19 @@
 -- The file that is written for a list by the rule of Bitcoin Core: what the old file has besides
--- its bans stays in it, and so does what the element of a ban has besides.
-use Rattle.std.specs.Prelude.{◌≡◌, ◌⊎◌, ℕ, List, [], ◌∷◌, ◌++◌, map, codes, Bool, false, Option, Some, None, if◌then◌else◌, option_map, unwrap_or}
+-- its bans stays in it as it is and in its order, and so does what the element of a ban has besides.
+use Rattle.std.specs.Prelude.{◌≡◌, ℕ, List, [], ◌∷◌, ◌++◌, map, filter, flat_map, codes, decimal, Bool, ◌||◌, not, ⊤, Option, Some, None, if◌then◌else◌}
 use Rattle.std.specs.Cmp.Lexicographic.{slice_cmp}
-use Rattle.std.specs.List.{fold}
 use Rattle.std.specs.List.Sorted.{IsPermutation, IsSortedBy}
-use Rattle.std.specs.Map.{lookup}
 use Rattle.std.specs.Ordering.{is_lt, nat_cmp, ordering_then}
+use Rattle.std.specs.Str.{bytes_eq}
 use Rattle.std.specs.declared.cmp.Ordering.{Ordering}
-use Rattle.serde_json.specs.Data.{Data, Members, array, member, no_members, object, put}
-use Rattle.serde_json.specs.Find.{as_object}
-use Rattle.serde_json.specs.View.{items_of, view}
-use Rattle.serde_json.specs.Written.{IsInOrder, compact_text, has_float}
-use Rattle.serde_json.specs.declared.value.Value.{Value}
+use Rattle.json.specs.Find.{get}
+use Rattle.json.specs.Json.{Json, Items, Members, array, document, item, member, no_items, no_members, number, object, string}
+use Rattle.json.specs.Print.{print}
+use Rattle.json.specs.Tree.{json_tokens}
+use Rattle.serde_json.specs.Data.{Data}
+use Rattle.serde_json.specs.Read.{of_json}
 use Rattle.net_addr.specs.Address.{net_number}
-use Rattle.ban_list.specs.BanFile.{HasElements, IsElement, IsJson, ban_members, bans_text}
+use Rattle.ban_list.specs.BanFile.{IsElement, bans_text}
 use Rattle.ban_list.specs.Bans.{same_subnet}
 use Rattle.ban_list.specs.SubnetText.{subnet_name}
 use Rattle.ban_list.specs.declared.ban.Ban.{Ban}
@@ -31,121 +31,129 @@ subnet_cmp s t =
 abbrev pub comes_before : Ban → Ban → Bool
 comes_before a b = is_lt (subnet_cmp a.subnet b.subnet)
 
--- the elements that are no bans, in their order
-unfoldable pub AreOthers : BanRule → List Data → List Data → Type 0
-AreOthers rule [] others = others ≡ []
-AreOthers rule (d ∷ ds) others =
-    (((ban : Ban) × IsElement rule d ban) × AreOthers rule ds others)
-    ⊎ (((ban : Ban) → IsElement rule d ban → ⊥)
-    × ((rest : List Data) × (others ≡ d ∷ rest) × AreOthers rule ds rest))
+-- a member of an object: its name and its value, whose numbers are text
+abbrev pub Member : Type 0
+Member = List ℕ × Json
 
--- the members of each element that is a ban, with the ban's subnet, in their order
-unfoldable pub AreBanMembers : List Data → List (Subnet × Members) → Type 0
-AreBanMembers [] found = found ≡ []
-AreBanMembers (d ∷ ds) found =
-    (((ban : Ban) → IsElement Names d ban → ⊥) × AreBanMembers ds found)
-    ⊎ ((ban : Ban) × IsElement Names d ban × (own : Members) × (d ≡ object own)
-    × (rest : List (Subnet × Members)) × (found ≡ (ban.subnet, own) ∷ rest)
-    × AreBanMembers ds rest)
+-- the object with these members, in this order; a name may come twice
+abbrev pub members_of : List Member → Members
+members_of [] = no_members
+members_of (m ∷ ms) = member m.0 m.1 (members_of ms)
 
--- the members of two objects in one: of two of one name, the second object's
-abbrev pub joined : Members → Members → Members
-joined members no_members = members
-joined members (member name value more) = joined (put name value members) more
+-- the array of these values
+abbrev pub items_of : List Json → Items
+items_of [] = no_items
+items_of (j ∷ js) = item j (items_of js)
 
--- the members that the elements of a subnet have: of two of one name, the later element's
-abbrev pub members_at : Subnet → List (Subnet × Members) → Members
-members_at subnet found =
-    fold (λ members e. if same_subnet e.0 subnet then joined members e.1 else members)
-    no_members found
+-- an element of the old list as it is in the text, and the subnet that it bans, unless it is no ban
+abbrev pub Element : Type 0
+Element = Json × Option Subnet
 
--- the element of a ban: the members that the elements of its subnet had, and those of the ban in
--- the place of what had their names
-abbrev pub element_data : List (Subnet × Members) → Ban → Data
-element_data found ban =
-    object (joined (members_at ban.subnet found) (ban_members (subnet_name ban.subnet) ban))
+abbrev pub IsOldElement : Json → Option Subnet → Type 0
+IsOldElement j (Some subnet) =
+    (d : Data) × (of_json j ≡ Some d) × (ban : Ban) × IsElement Names d ban × (ban.subnet ≡ subnet)
+IsOldElement j None = (d : Data) → of_json j ≡ Some d → (ban : Ban) → IsElement Names d ban → ⊥
 
--- what elements have besides the bans: the members of those that are bans, and those that are none
-abbrev pub AreParts : List Data → List Data → List (Subnet × Members) → Type 0
-AreParts elements others found = AreBanMembers elements found × AreOthers Names elements others
+unfoldable pub AreOldElements : List Element → Type 0
+AreOldElements [] = ⊤
+AreOldElements (e ∷ es) = IsOldElement e.0 e.1 × AreOldElements es
 
--- what the elements of a file's list have
-abbrev pub HasRest : Data → List Data → List (Subnet × Members) → Type 0
-HasRest value others found =
-    (elements : List Data) × HasElements value elements × AreParts elements others found
-
--- what a file has besides its bans: its members, of which one is the list, and what the elements of
--- the list have
-abbrev pub IsRestOfFile : List ℕ → Members → List Data → List (Subnet × Members) → Type 0
-IsRestOfFile bytes members others found =
-    IsJson bytes (object members) × HasRest (object members) others found
+-- the bytes are a text of an object with these members, and these are the elements of the array
+-- under `banned_nets`: of several members of that name the last one's
+pub record IsOldFile (bytes : List ℕ) (members : List Member) (elements : List Element) : Type 0 where
+  pub text : document bytes ≡ Some (object (members_of members))
+  pub list : get (codes "banned_nets") (object (members_of members))
+      ≡ Some (array (items_of (map (λ e. e.0) elements)))
+  pub are : AreOldElements elements
 
 -- the same of the file that the list was read from, if there was one
-abbrev pub IsRest : Option (List ℕ) → Members → List Data → List (Subnet × Members) → Type 0
-IsRest None members others found = (members ≡ no_members) × (found ≡ []) × (others ≡ [])
-IsRest (Some bytes) members others found = IsRestOfFile bytes members others found
+abbrev pub IsOld : Option (List ℕ) → List Member → List Element → Type 0
+IsOld None members elements = (members ≡ []) × (elements ≡ [])
+IsOld (Some bytes) members elements = IsOldFile bytes members elements
 
--- the value of the file: the members, with a list of bans and other elements under `banned_nets`
-abbrev pub named_data : List (Subnet × Members) → List Ban → List Data → Members → Data
-named_data found sorted others members =
-    object (put (codes "banned_nets")
-    (array (items_of (map (element_data found) sorted ++ others))) members)
+-- the name of the member that has the list
+abbrev pub is_list_name : List ℕ → Bool
+is_list_name name = bytes_eq name (codes "banned_nets")
+
+-- the names of the members that a ban has
+abbrev pub is_ban_name : List ℕ → Bool
+is_ban_name name =
+    bytes_eq name (codes "address") || bytes_eq name (codes "ban_created")
+    || bytes_eq name (codes "banned_until") || bytes_eq name (codes "version")
+
+-- the members of other names, in their order
+abbrev pub besides : (List ℕ → Bool) → List Member → List Member
+besides has members = filter (λ m. not (has m.0)) members
+
+-- the list in the place of the first member of its name, or last if there is none; there is no
+-- other member of that name
+abbrev pub with_list : Json → List Member → List Member
+with_list list [] = (codes "banned_nets", list) ∷ []
+with_list list (m ∷ ms) =
+    if is_list_name m.0 then (codes "banned_nets", list) ∷ besides is_list_name ms
+    else m ∷ with_list list ms
+
+-- the members of a ban, with this text of its subnet
+abbrev pub own_members_with : List ℕ → Ban → List Member
+own_members_with text ban =
+    (codes "address", string text)
+    ∷ (codes "ban_created", number (decimal ban.created))
+    ∷ (codes "banned_until", number (decimal ban.until))
+    ∷ (codes "version", number (decimal 1)) ∷ []
+
+-- the members of a ban
+abbrev pub own_members : Ban → List Member
+own_members ban = own_members_with (subnet_name ban.subnet) ban
+
+-- the members of an object, none of any other value
+abbrev pub members_list : Members → List Member
+members_list no_members = []
+members_list (member name value more) = (name, value) ∷ members_list more
+
+abbrev pub members_in : Json → List Member
+members_in (object ms) = members_list ms
+members_in other = []
+
+-- what an element has besides the members of a ban, if it is a ban of this subnet
+abbrev pub besides_at : Subnet → Json → Option Subnet → List Member
+besides_at subnet j None = []
+besides_at subnet j (Some own) =
+    if same_subnet own subnet then besides is_ban_name (members_in j) else []
+
+-- the element of a ban: its members, and then what the old elements of its subnet have besides
+abbrev pub ban_tree : List Element → Ban → Json
+ban_tree elements ban =
+    object (members_of (own_members ban ++ flat_map (λ e. besides_at ban.subnet e.0 e.1) elements))
+
+-- an element that is no ban
+abbrev pub other_of : Json → Option Subnet → List Json
+other_of j None = j ∷ []
+other_of j (Some subnet) = []
+
+-- the new list: the bans, and the elements that are no bans
+abbrev pub list_tree : List Element → List Ban → Json
+list_tree elements bans =
+    array (items_of (map (ban_tree elements) bans ++ flat_map (λ e. other_of e.0 e.1) elements))
+
+-- the value of the file: the old members, with the new list in the place of the old one
+abbrev pub named_tree : List Member → List Element → List Ban → Json
+named_tree members elements bans =
+    object (members_of (with_list (list_tree elements bans) members))
 
 -- The members of the old file, with a new list under `banned_nets`: the bans, sorted, each with the
--- members that the old elements of its subnet had besides, and then the old elements that are no
--- bans, as they are (`BanMapToJson` in net_types.cpp). If no number in it is a float, it is the one
--- text of its value without spaces.
+-- members that the old elements of its subnet have besides, and then the old elements that are no
+-- bans (`BanMapToJson` in net_types.cpp). What is kept is as it was, in its order: a number has its
+-- digits, and a name that comes twice still does. The text has no spaces and the shortest escapes.
 pub record IsNamedFile (old : Option (List ℕ)) (bans : List Ban) (text : List ℕ) : Type 0 where
-  pub members : Members
-  pub found : List (Subnet × Members)
-  pub others : List Data
-  pub rest : IsRest old members others found
+  pub members : List Member
+  pub elements : List Element
+  pub is_old : IsOld old members elements
   pub sorted : List Ban
   pub same : IsPermutation bans sorted
   pub order : IsSortedBy comes_before sorted
-  pub json : IsJson text (named_data found sorted others members)
-  pub in_order : IsInOrder text (named_data found sorted others members)
-  pub exact : has_float (named_data found sorted others members) ≡ false →
-      text ≡ compact_text (named_data found sorted others members)
+  pub exact : text ≡ print (json_tokens (named_tree members elements sorted))
 
 -- the text that is written for a list, by the rule and the file that it was read from
 abbrev pub IsWritten : BanRule → Option (List ℕ) → List Ban → List ℕ → Type 0
 IsWritten Labels old bans text = text ≡ bans_text bans
 IsWritten Names old bans text = IsNamedFile old bans text
-
--- FOR PRIVATE CLAUSES
-
--- the members of an object, none of any other value
-abbrev pub members_in : Option Data → Members
-members_in None = no_members
-members_in (Some d) = unwrap_or (as_object d) no_members
-
--- the members that are stored under a subnet
-abbrev pub stored_at : List (Subnet × Value) → Subnet → Members
-stored_at stored subnet = members_in (option_map view (lookup (same_subnet subnet) stored))
-
--- each subnet has the members that were found
-abbrev pub AreStored : List (Subnet × Value) → List (Subnet × Members) → Type 0
-AreStored stored found = (subnet : Subnet) → stored_at stored subnet ≡ members_at subnet found
-
--- what was found and is stored has this property
-abbrev pub HasStored : (List (Subnet × Members) → Type 0) → List (Subnet × Value) → Type 0
-HasStored P stored = (found : List (Subnet × Members)) × AreStored stored found × P found
-
--- the element of a ban, with the members that are stored under its subnet
-abbrev pub stored_element : List (Subnet × Value) → Ban → Data
-stored_element stored ban =
-    object (joined (stored_at stored ban.subnet) (ban_members (subnet_name ban.subnet) ban))
-
--- the members of an element were stored with those of its subnet
-abbrev pub AreJoinedAt : Subnet → Data → List (Subnet × Value) → List (Subnet × Value) → Type 0
-AreJoinedAt subnet d old new = (other : Subnet) →
-    stored_at new other ≡ (if same_subnet subnet other
-    then joined (stored_at old other) (members_in (Some d)) else stored_at old other)
-
--- one element more was stored
-abbrev pub IsElementKept : Data → List (Subnet × Value) → List (Subnet × Value) →
-    List Data → List Data → Type 0
-IsElementKept d before after old new =
-    ((ban : Ban) × IsElement Names d ban × AreJoinedAt ban.subnet d before after × (new ≡ old))
-    ⊎ (((ban : Ban) → IsElement Names d ban → ⊥) × (after ≡ before) × (new ≡ old ++ d ∷ []))

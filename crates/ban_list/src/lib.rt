@@ -9,8 +9,9 @@
 //! By the rule `Names` a list is read and written as Bitcoin Core does: addresses of Tor v3, I2P
 //! and CJDNS have names, and elements that are no bans stay in the file, as do the members beside
 //! the list (`write_bans_by`). The element of a ban is written anew, with what the old elements of
-//! its subnet have besides the four members; a time after 2106 is written as the last one that
-//! fits. That such a file reads as the list is not proved.
+//! its subnet have besides the four members. What stays is as it was: members in their order, each
+//! as often as it was there, numbers with their digits. A time after 2106 is written as the last
+//! one that fits. That such a file reads as the list is not proved.
 //!
 //! Seen in the code only: reading takes one look-up for each element, and `covering` looks at each
 //! ban.
@@ -20,6 +21,7 @@ mod ban;
 mod bans;
 mod fault;
 mod law;
+mod named_text;
 mod read_file;
 mod subnet;
 mod subnet_names;

@@ -22,6 +22,8 @@ use Rattle.gen_load.specs.declared.kind.Kind.{Kind}
 use Rattle.gen_load.specs.declared.kind.Kind.TheVariants as kind
 use Rattle.gen_load.specs.Inside.{IsInTime, lines_left}
 use Rattle.gen_load.specs.Spelling.{AreLines, IsGenLine, without_feed}
+use Rattle.net_addr.specs.declared.peer.Entry.{Entry}
+use Rattle.net_addr.specs.declared.net.Net.TheVariants.{Ipv4}
 use Rattle.gen_load.specs.Log.{draw, past, past_entries, peer_of, draw_entry, draw_entries, message_line, line_of, kind_of, drawn_line, drawn_lines, next_line, whole_log}
 use Rattle.gen_load.proofs.Lines.{past-time, drawn_line-time}
 use Rattle.gen_load.proofs.Spelled.{HasCommand, draw-small, drawn_line_spells, entries_bytes, entries_length, few_size, now_spells, peer_drawn}
@@ -61,6 +63,11 @@ entries-length (suc n) at =
     let first : length (addr_entry_text (draw_entry at)) ≡ 30 = refl in
     let both = length-append (addr_entry_text (draw_entry at)) (flat_map addr_entry_text (draw_entries n (past (past at)))) in
     omega (arith, rest, first, both)
+
+-- each entry has an IPv4 address
+pub are_ipv4 : (n : ℕ) (at : Position) → All (λ (e : Entry). e.peer.addr.net ≡ Ipv4) (draw_entries n at)
+are_ipv4 zero at = All-nil (λ (e : Entry). e.peer.addr.net ≡ Ipv4)
+are_ipv4 (suc n) at = All-cons (λ (e : Entry). e.peer.addr.net ≡ Ipv4) (draw_entry at) (draw_entries n (past (past at))) refl (are_ipv4 n (past (past at)))
 
 pub message-short : (n : ℕ) (at : Position) → n < 5 → length (message_text addr_entry_text (draw_entries n at)) ≤ 121
 message-short n at few =

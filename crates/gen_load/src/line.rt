@@ -1,4 +1,4 @@
-ghost use Rattle.std.specs.Prelude.{◌≡◌, ◌≤◌, ◌+◌, ◌++◌, length, take, All, IfOk, OnOk, vec_len};
+ghost use Rattle.std.specs.Prelude.{◌≡◌, ◌≤◌, ◌+◌, ◌++◌, length, take, All, OnOk, vec_len};
 ghost use Rattle.net_addr.specs.declared.net.Net.TheVariants.{Ipv4};
 ghost use Rattle.addr_codecs.specs.Texts.{addr_entry_text, message_text};
 ghost use Rattle.gen_load.specs.Inside.{payload_text};
@@ -6,11 +6,10 @@ ghost use Rattle.gen_load.specs.declared.line.TheConstants.{MAX_MESSAGE};
 ghost use Rattle.gen_load.specs.Log.{clock_line, addr_line, message_line, peer_line, select_line, clash_line, line_of, drawn_line, draw_entries, past_entries};
 
 use crate::kind::{Kind, kind_of};
-use crate::position::Position;
+use crate::position::{Position, peer_of};
 use crate::print::put_peer_between;
 use addr_codecs::write_addr;
 use net_addr::{Entry, Memory, NetAddr, put_addr, put_number, put_text};
-use std::alloc::{AllocError, Global};
 
 /// The number of random words that a `select` line gives.
 const SELECT_WORDS: u64 = 300;
@@ -18,8 +17,11 @@ const SELECT_WORDS: u64 = 300;
 /// The seeds, and the words of `clash` lines, are below this.
 const SEEDS: u64 = 1 << 32;
 
-/// The maximum length of a message in bytes: the number of entries takes one, each of four 30.
-const MAX_MESSAGE: usize = 1 + 30 * 4;
+/// The maximum number of entries of a message.
+const MAX_ENTRIES: usize = 4;
+
+/// The maximum length of a message in bytes: the number of entries takes one, each entry 30.
+const MAX_MESSAGE: usize = 1 + 30 * MAX_ENTRIES;
 
 // After `Memory` each of the functions below may leave a part of its text in the list.
 
@@ -114,29 +116,30 @@ fn put_message(position: &mut Position, out: &mut Vec<u8>) -> Result<(), Memory>
     ensures kept { take (vec_len out.old) out.new.items ≡ out.old.items }
 {
     let source = position.draw_peer();
-    let count = 1 + position.draw(4);
-    let entries = draw_entries(position, count, *out.allocator())?;
+    let count = 1 + position.draw(4) as usize;
+    let entries = draw_entries(position, count);
     let seed = position.draw(SEEDS);
-    put_addr_line(&source.addr, entries.as_slice(), seed, out)
+    put_addr_line(&source.addr, &entries[..count], seed, out)
 }
 
-/// Returns this many entries of a message.
-fn draw_entries(
-    position: &mut Position,
-    count: u64,
-    alloc: Global,
-) -> Result<Vec<Entry>, AllocError>
-    requires { 86400 ≤ position.old.time }
-    ensures entries { IfOk result (λ es. es.items ≡ draw_entries count position.old) }
-    ensures count { IfOk result (λ es. vec_len es ≡ count) }
-    ensures networks { IfOk result (λ es. All (λ e. e.peer.addr.net ≡ Ipv4) es.items) }
-    ensures after { OnOk result (position.new ≡ past_entries count position.old) }
+/// Returns the entries of a message at the beginning of an array, so that they take no memory. What
+/// is after the first `count` of them is no part of the message.
+fn draw_entries(position: &mut Position, count: usize) -> [Entry; MAX_ENTRIES]
+    requires past_day { 86400 ≤ position.old.time }
+    requires room { count ≤ 4 }
+    ensures entries { take count result ≡ draw_entries count position.old }
+    ensures after { position.new ≡ past_entries count position.old }
 {
-    let mut entries = Vec::with_capacity(alloc, count as usize)?;
-    for _ in 0..count {
-        entries.push(position.draw_entry())?;
+    let blank = Entry {
+        time: 0,
+        services: 0,
+        peer: peer_of(0),
+    };
+    let mut entries = [blank; MAX_ENTRIES];
+    for i in 0..count {
+        entries[i] = position.draw_entry();
     }
-    Ok(entries)
+    entries
 }
 
 /// Appends an `addr` line of these entries.

@@ -65,7 +65,7 @@ impl Position {
 }
 
 /// Returns the peer of a number.
-fn peer_of(number: u64) -> Peer
+pub fn peer_of(number: u64) -> Peer
     requires { number < 16384 }
     ensures value { result ≡ peer_of number }
     ensures network { result.addr.net ≡ Ipv4 }

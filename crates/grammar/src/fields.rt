@@ -41,12 +41,12 @@ pub trait Fields<T: Texts> {
     fn fit(rest: T) -> bool
         ensures { IsTrue result ↔ (length (T.texts rest) ≡ length kinds) };
 
-    /// Reads the texts, which are as many as the fields.
+    /// Reads the texts. An error is the first field's with one if there are as many texts as
+    /// fields.
     fn read(alloc: Global, rest: T) -> Result<Self::Out, LineFault>
-        requires count { length (T.texts rest) ≡ length kinds }
         ensures found { IfOk result (λ x. AllMean kinds (T.texts rest) (values x)) }
         ensures fault { (f : LineFault) → result ≡ Err f → f ≢ LineFault.Memory →
-            IsFirstFault kinds (T.texts rest) f }
+            length (T.texts rest) ≡ length kinds → IsFirstFault kinds (T.texts rest) f }
         ensures memory { result ≡ Err LineFault.Memory → can_run_out };
 }
 
@@ -64,7 +64,10 @@ impl<T: Texts> Fields<T> for () {
     }
 
     fn read(alloc: Global, rest: T) -> Result<(), LineFault> {
-        Ok(())
+        match rest.cut() {
+            None => Ok(()),
+            Some(_) => Err(LineFault::Fields),
+        }
     }
 }
 
@@ -86,7 +89,7 @@ impl<T: Texts, A: Field, R: Fields<T>> Fields<T> for (A, R) {
 
     fn read(alloc: Global, rest: T) -> Result<(A::Out, R::Out), LineFault> {
         let Some((first, rest)) = rest.cut() else {
-            unreachable!()
+            return Err(LineFault::Fields);
         };
         let a = A::read(alloc, first)?;
         let r = R::read(alloc, rest)?;
@@ -94,16 +97,22 @@ impl<T: Texts, A: Field, R: Fields<T>> Fields<T> for (A, R) {
     }
 }
 
-/// Reads the fields after a keyword, which may be too few or too many.
+/// Reads the fields after a keyword, which may be too few or too many. They are counted only after
+/// an error, so that a line without one is cut once.
 pub fn read_fields<T: Texts, R: Fields<T>>(alloc: Global, rest: T) -> Result<R::Out, LineFault>
     ensures found { IfOk result (λ x. AllMean R.kinds (T.texts rest) (R.values x)) }
     ensures fault { (f : LineFault) → result ≡ Err f → f ≢ LineFault.Memory →
         AreAtFault R.kinds (T.texts rest) f }
     ensures memory { result ≡ Err LineFault.Memory → R.can_run_out }
 {
-    if R::fit(rest) {
-        R::read(alloc, rest)
-    } else {
-        Err(LineFault::Fields)
+    match R::read(alloc, rest) {
+        Ok(values) => Ok(values),
+        Err(fault) => {
+            if R::fit(rest) {
+                Err(fault)
+            } else {
+                Err(LineFault::Fields)
+            }
+        }
     }
 }

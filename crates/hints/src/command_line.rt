@@ -143,7 +143,8 @@ static RARE_OPTIONS: [RareOption; 10] = [
     },
     RareOption {
         flag: "--asmap",
-        commands: "picture, raw, info, groups, risk, from-raw, diff, check, lookup, decompile and address",
+        commands: "picture, raw, info, groups, risk, from-raw, diff, check, lookup, decompile \
+                   and address",
     },
     RareOption {
         flag: "--anchors",
@@ -207,8 +208,7 @@ fn reader_of(command: &[u8], rest: &[String]) -> Reader {
     }
 }
 
-/// Says which argument is wrong, and what is wanted there. The arguments are not those of a
-/// command.
+/// Says which argument is wrong, and what it has to be. The arguments are not those of a command.
 pub fn usage_hint(alloc: Global, words: &[String]) -> Result<String, AllocError> {
     let Some((command, rest)) = words.split_first() else {
         return String::from_str(

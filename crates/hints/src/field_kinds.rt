@@ -6,7 +6,7 @@ use names::parse_text;
 use net_addr::{parse_addr, parse_number, parse_peer};
 use std::alloc::Global;
 
-/// Which texts a name in a form stands for.
+/// Which texts a name in a form means.
 #[derive(Clone, Copy)]
 enum Kind {
     Addr,
@@ -21,7 +21,7 @@ enum Kind {
     Number(u64, u64),
 }
 
-/// What a name in a form stands for.
+/// What a name in a form means.
 #[derive(Clone, Copy)]
 pub(crate) struct Wanted {
     name: &'static str,
@@ -135,7 +135,7 @@ static NAMES: [Wanted; 19] = [
     },
 ];
 
-/// Returns what a name in a form stands for.
+/// Returns what a name in a form means.
 pub(crate) fn find_wanted(name: &str) -> Option<&'static Wanted> {
     for wanted in &NAMES {
         if wanted.name == name {

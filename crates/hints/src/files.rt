@@ -158,7 +158,8 @@ pub fn missing_hint(alloc: Global, name: Name, paths: &Paths<'_>) -> Result<Stri
     }
     let text = match name {
         Name::Asmap =>
-            "addrman compile makes it from prefixes.txt of the current folder, or --asmap FILE is read",
+            "addrman compile makes it from prefixes.txt of the current folder, or --asmap FILE is \
+             read",
         Name::AsmapOld => "it has to be in the current folder: the asmap of before",
         Name::Prefixes => "it has to be in the current folder, with rows as 1.2.0.0/16 AS6",
         _ => "it has to be in the current folder: copy that of a node which does not run, \

@@ -39,7 +39,8 @@ fn no_json(alloc: Global, text: &[u8]) -> Result<String, AllocError> {
 fn fixed_text(fault: &ListingFault) -> &'static str {
     match fault {
         ListingFault::Text(RawFault::Form) =>
-            "expected an object with an object each under new and tried, as getrawaddrman prints it",
+            "expected an object with an object each under new and tried, as getrawaddrman prints \
+             it",
         ListingFault::Text(RawFault::Slot { .. }) =>
             "a member is named by its slot, as 1023/63, and they come by rising slots; \
              new has 1024 buckets, tried 256, each 64 positions",

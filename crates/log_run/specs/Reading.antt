@@ -1,5 +1,5 @@
 -- What a reader of a log has read.
-use Rattle.std.specs.Prelude.{◌≡◌, ◌≢◌, ℕ, ◌+◌, ◌≤◌, ◌<◌, Bool, IsTrue, List, [], ◌∷◌, ◌++◌, false, length, take, drop, Option, Some}
+use Rattle.std.specs.Prelude.{◌≡◌, ◌≢◌, ◌⊎◌, ℕ, ◌+◌, ◌≤◌, ◌<◌, Bool, IsTrue, List, [], ◌∷◌, ◌++◌, false, length, take, drop, Option, Some}
 use Rattle.log_run.specs.Log.{HasNoFeed}
 use Rattle.log_run.specs.declared.sizes.TheConstants.{MAX_LINE, MAX_READ}
 
@@ -39,6 +39,10 @@ abbrev pub IsLong : Reading → Type 0
 IsLong now =
     HasNoFeed (take (MAX_LINE + 1) now.waiting) × (MAX_LINE < length now.waiting)
     × (length now.waiting ≤ MAX_LINE + MAX_READ)
+
+-- the log has ended, or the next line has no line feed yet, or is too long
+abbrev pub WaitsForMore : Reading → Type 0
+WaitsForMore now = IsTrue now.is_ended ⊎ (HasNoLine now ⊎ IsLong now)
 
 -- The first `MAX_LOG` bytes were taken, and there is one more.
 abbrev pub HasMore : Reading → Reading → Option (List ℕ) → Option (List ℕ) → Type 0

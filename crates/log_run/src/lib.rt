@@ -7,7 +7,7 @@
 //! (`ran`, `taken`). It keeps at most a line and one read in memory.
 //!
 //! Tested only: that no byte is read while a whole line is there to be carried out, nor before the
-//! replies to the lines so far are written.
+//! replies to the lines before it are written.
 #![tactic(auto)]
 
 mod buffer;

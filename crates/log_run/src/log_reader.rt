@@ -50,6 +50,7 @@ impl LogReader {
     ghost use Rattle.host_io.specs.Reading.{MovesBytes};
     ghost use Rattle.log_run.specs.Log.{HasNoFeed, IsAtEnd};
     ghost use Rattle.log_run.specs.Reading.{HasMore, HasNoLine, HasRead, IsLine, IsLong};
+    ghost use Rattle.log_run.specs.Reading.{WaitsForMore};
 
     /// Makes a reader of a log of which nothing was read. Takes no memory.
     pub fn make(alloc: Global) -> LogReader
@@ -156,6 +157,7 @@ impl LogReader {
     /// Nothing is read.
     pub fn waiting_line(&mut self) -> Option<usize>
         ensures found { IfSome result (λ n. IsLine self.new n) }
+        ensures none { IfNone result (WaitsForMore self.new) }
         ensures same { self.new ≡ self.old }
     {
         if self.is_ended {

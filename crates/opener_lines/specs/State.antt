@@ -57,7 +57,8 @@ abbrev pub OutboundStep : OpenerState → ℕ → Answer → OpenerState → Typ
 OutboundStep old seed answer new =
     ((length old.open_peers ≡ MAX_OUTBOUND) × (answer ≡ Full) × (new ≡ old))
     ⊎ ((length old.open_peers < MAX_OUTBOUND)
-    × ((found : Outcome) × HasOutcome (try_by old.rules old.machine old.open_peers ToKeep seed) found
+    × ((found : Outcome)
+    × HasOutcome (try_by old.rules old.machine old.open_peers ToKeep seed) found
     × (answer ≡ answer_to_outbound old.rules old.machine.tables.places found)
     × (new ≡ record old {
       open_peers =

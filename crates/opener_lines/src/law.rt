@@ -17,7 +17,8 @@ use crate::TRY_WORDS;
 /// A line of an opener's log that is passed over asks for nothing and has no fault. Any other asks
 /// for at most one thing or has at most one fault, and never both.
 pub fn opener_lines_have_one_meaning()
-    ensures request { (line : List ℕ) (a b : OpenerCommand) → LineAsks line a → LineAsks line b → a ≡ b }
+    ensures request { (line : List ℕ) (a b : OpenerCommand) → LineAsks line a →
+        LineAsks line b → a ≡ b }
     ensures fault { (line : List ℕ) (f g : LineFault) → HasRequestFault line f →
         HasRequestFault line g → f ≡ g }
     ensures right { (line : List ℕ) (a : OpenerCommand) (f : LineFault) → LineAsks line a →

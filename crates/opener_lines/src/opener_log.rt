@@ -134,14 +134,16 @@ pub fn opener_line<H: BuildHasher, L: Ledger>(
 ) -> Result<(), LineFault>
     requires room { manager.old.tables.next_number < 2 ^ 62 }
     ensures step { OnOk result ((text : List ℕ)
-        × LineStep (state rules.now manager.old opener.old) line.now text (state rules.now manager.new opener.new)
+        × LineStep (state rules.now manager.old opener.old) line.now
+        text (state rules.now manager.new opener.new)
         × (out.new.items ≡ out.old.items ++ text)) }
     ensures fault { (f : LineFault) → result ≡ Err f → f ≢ LineFault.Memory →
         HasRequestFault line.now f × (manager.new ≡ manager.old) × (opener.new ≡ opener.old) }
     ensures only_fault { (f : LineFault) → HasRequestFault line.now f →
         (result ≡ Err f) ⊎ (result ≡ Err LineFault.Memory) }
     ensures memory { IsErrOf result LineFault.Memory →
-        OpenerLeavesPart (state rules.now manager.old opener.old) line.now (state rules.now manager.new opener.new) }
+        OpenerLeavesPart (state rules.now manager.old opener.old) line.now
+        (state rules.now manager.new opener.new) }
     ensures list { OnErr result (out.new.items ≡ out.old.items) }
     ensures numbers { manager.new.tables.next_number ≤ manager.old.tables.next_number + 1000 }
 {

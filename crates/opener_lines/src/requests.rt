@@ -38,7 +38,8 @@ pub(crate) fn carry_out<H: BuildHasher, L: Ledger>(
         answer (state rules.now manager.new opener.new)
         × (out.new.items ≡ out.old.items ++ answer_text answer)) }
     ensures err { OnErr result
-        (Leaves (state rules.now manager.old opener.old) request.now (state rules.now manager.new opener.new)) }
+        (Leaves (state rules.now manager.old opener.old) request.now
+        (state rules.now manager.new opener.new)) }
     ensures list { OnErr result (out.new.items ≡ out.old.items) }
     ensures numbers { manager.new.tables.next_number ≤ manager.old.tables.next_number + 1000 }
 {
@@ -66,7 +67,8 @@ fn outbound<H: BuildHasher, L: Ledger>(
     steps: &mut Steps<L>,
 ) -> Result<(), Memory>
     ensures step { OnOk result ((answer : Answer)
-        × OutboundStep (state rules.now manager.now opener.old) seed answer (state rules.now manager.now opener.new)
+        × OutboundStep (state rules.now manager.now opener.old) seed
+        answer (state rules.now manager.now opener.new)
         × (out.new.items ≡ out.old.items ++ answer_text answer)) }
     ensures err { OnErr result (opener.new ≡ opener.old) }
     ensures list { OnErr result (out.new.items ≡ out.old.items) }
@@ -100,7 +102,8 @@ fn feeler<H: BuildHasher, L: Ledger>(
 ) -> Result<(), Memory>
     requires room { manager.old.tables.next_number < 2 ^ 62 }
     ensures step { OnOk result ((answer : Answer)
-        × FeelerStep (state rules.now manager.old opener.now) seed word answer (state rules.now manager.new opener.now)
+        × FeelerStep (state rules.now manager.old opener.now) seed word
+        answer (state rules.now manager.new opener.now)
         × (out.new.items ≡ out.old.items ++ answer_text answer)) }
     ensures err { OnErr result (manager.new ≡ after_clash manager.old word) }
     ensures list { OnErr result (out.new.items ≡ out.old.items) }

@@ -41,7 +41,7 @@ pub(crate) fn pick_of_feeler<H: BuildHasher, L: Ledger>(
 }
 
 /// Returns the pick of the try of this number, from the new table only or from both. The random
-/// words are drawn as they are needed.
+/// words are taken as they are needed.
 pub(crate) fn pick_of_try<H: BuildHasher, L: Ledger>(
     manager: &Manager<'_, H>,
     new_only: bool,

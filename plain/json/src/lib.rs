@@ -1,11 +1,15 @@
-//! Writing JSON with a line for each item and member, a token at a time, and reading it as a tree.
+//! Writing JSON with a line for each item and member, a token at a time, or without spaces, and
+//! reading it as a tree.
 
 mod read;
+mod write;
 
 pub use read::{Error, Scratch, Value};
+pub use write::Writer;
 
 use plain_std::alloc::{AllocError, Global};
 use plain_std::vec::Vec;
+use write::put_text;
 
 /// A token of JSON.
 #[derive(Clone, Copy, Debug)]
@@ -107,21 +111,7 @@ impl Pretty {
     }
 
     fn text(&mut self, text: &str) -> Result<(), AllocError> {
-        self.put("\"")?;
-        for byte in text.bytes() {
-            match byte {
-                b'"' => self.put("\\\"")?,
-                b'\\' => self.put("\\\\")?,
-                0..=31 => {
-                    let digit = |value: u8| b"0123456789abcdef"[usize::from(value)];
-                    self.put("\\u00")?;
-                    self.out
-                        .extend_from_slice(&[digit(byte >> 4), digit(byte & 15)])?;
-                }
-                _ => self.out.push(byte)?,
-            }
-        }
-        self.put("\"")
+        put_text(&mut self.out, text)
     }
 }
 
@@ -148,7 +138,7 @@ mod tests {
         for token in tokens {
             out.token(token).unwrap();
         }
-        let text = "{\n  \"a\\u000a\": [\n    1,\n    null\n  ],\n  \"b\": {}\n}";
+        let text = "{\n  \"a\\n\": [\n    1,\n    null\n  ],\n  \"b\": {}\n}";
         assert_eq!(out.into_inner().as_slice(), text.as_bytes());
     }
 }

@@ -1,34 +1,15 @@
-use Rattle.std.proofs.Common.{◌≤◌, ◌++◌, Some, codes, map, sym, ap, ◌∙◌, subst}
-use Rattle.std.specs.List.Sorted.{IsPermutation}
-use Rattle.std.specs.Prelude.{string_bytes}
-use Rattle.serde_json.specs.Data.{array, depth, object, put}
-use Rattle.serde_json.specs.Read.{max_depth, read}
-use Rattle.serde_json.specs.View.{items_of, members_view, view}
-use Rattle.serde_json.specs.Written.{IsInOrder, compact_text, has_float}
-use Rattle.ban_list.specs.NewFile.{element_data, named_data}
-use Rattle.ban_list.proofs.NewLaws.{file_depth}
+use Rattle.std.proofs.Common.{[], None, refl, sym, subst}
+use Rattle.std.specs.List.Sorted.{IsPermutation, IsSortedBy}
+use Rattle.std.specs.Prelude.{IfOk}
+use Rattle.ban_list.specs.NewFile.{IsNamedFile, comes_before}
+use Rattle.ban_list.proofs.OldLaws.{items_numbers, named_over, ok_then}
 use Rattle.ban_list.proofs.write_by_name.write_by_name.Goals as goal
 
 pub returns : goal.returns
 returns c =
-    let rest = c.in_ok-rest.rest in
-    let members = members_view rest.members.entries in
-    let others = map view rest.elements.others.items in
-    let list = c.in_ok-list.list.items in
-    let stored = c.in_ok-rest.ensures.rest in
-    let found = stored.0 in
-    let value = c.in_ok-file.ensures found stored.1 ∙ ap (λ bans. object (put (codes "banned_nets") (array (items_of (map (element_data found) bans ++ others))) members)) c.as_slice.ensures.value in
-    let shallow = subst (λ d. depth d ≤ max_depth) (sym value) (file_depth c.args.old.now list members others found stored.2 c.in_ok-rest.ensures.shallow) in
-    record {
-      members = members;
-      found = found;
-      others = others;
-      rest = stored.2;
-      sorted = list;
-      same = subst (λ bans. IsPermutation bans list) c.bans.ensures.value c.in_ok-list.ensures.same;
-      order = c.in_ok-list.ensures.order;
-      json = (c.bytes_of.ensures.utf8, ap read c.bytes_of.ensures.value ∙ c.in_ok-text.ensures.reads_back shallow ∙ ap Some value);
-      in_order = subst (λ s. IsInOrder s (named_data found list others members)) (sym c.bytes_of.ensures.value)
-          (subst (IsInOrder (string_bytes c.in_ok-text.text)) value c.in_ok-text.ensures.order);
-      exact = λ none. c.bytes_of.ensures.value ∙ c.in_ok-text.ensures.text (ap has_float value ∙ none) ∙ ap compact_text value;
-    }
+    let bans = c.args.bans.now in
+    let list = c.as_slice-in-None.result.now in
+    let same = subst (λ xs. IsPermutation bans xs) (sym c.as_slice-in-None.ensures.value) (subst (λ xs. IsPermutation xs c.in_ok-list.list.items) c.bans.ensures.value c.in_ok-list.ensures.same) in
+    let order = subst (IsSortedBy comes_before) (sym c.as_slice-in-None.ensures.value) c.in_ok-list.ensures.order in
+    subst (λ old. IfOk c.write_named.result (IsNamedFile old bans)) (sym c.in-None.is)
+    (ok_then _ (IsNamedFile None bans) (λ text is. record { members = []; elements = []; is_old = (refl, refl); sorted = list; same = same; order = order; exact = is }) c.write_named.result c.write_named.ensures)

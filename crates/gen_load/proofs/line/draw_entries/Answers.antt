@@ -1,5 +1,6 @@
-use Rattle.std.proofs.Common.{◌≡◌, ℕ, suc, ◌+◌, ◌-◌, List, [], ◌∷◌, ◌++◌, rules, sym, ap, ◌∙◌, arith, append_assoc}
+use Rattle.std.proofs.Common.{◌≡◌, ◌<◌, ℕ, suc, ◌+◌, ◌-◌, List, [], ◌∷◌, ◌++◌, length, take, sym, ap, ◌∙◌, arith, append_assoc}
 use Rattle.std.proofs.Common.{append-nil}
+use Rattle.std.proofs.lemmas.List.{length-set, take_more_set}
 use Rattle.net_addr.specs.declared.peer.Entry.{Entry}
 use Rattle.gen_load.specs.declared.position.Position.{Position}
 use Rattle.gen_load.specs.Log.{past, draw_entry, draw_entries, past_entries}
@@ -25,42 +26,40 @@ all_entries es all at left whole none = sym (append-nil es) ∙ ap (λ n. es ++ 
 at_end : (at end : Position) (left : ℕ) → past_entries left at ≡ end → left ≡ 0 → at ≡ end
 at_end at end left whole none = ap (λ n. past_entries n at) (sym none) ∙ whole
 
-pub loop-init : goal.loop-init
-loop-init c = record {
-  late = c.requires;
-  whole = (λ i. c.in_ok-entries.ensures.items i ++ draw_entries (none i) c.args.position.now);
+pub loop-i-init : goal.loop-i-init
+loop-i-init c = record {
+  late = c.requires.past_day;
+  whole = ap (λ n. draw_entries n c.args.position.now) none;
   end = ap (λ n. past_entries n c.args.position.now) none;
-  counted = c.in_ok-entries.ensures.len;
-  networks = search rules;
+  size = cc;
 }
   where
     none : c.args.count - 0 ≡ c.args.count
     none = omega arith
 
 pub draw_entry-requires : goal.draw_entry-requires
-draw_entry-requires c = c.loop.invariant.late
+draw_entry-requires c = c.loop-i.invariant.late
 
-pub loop-preserved : goal.loop-preserved
-loop-preserved c = record {
-  late = omega (arith, c.loop.invariant.late, c.draw_entry.ensures.time);
-  whole = entry_more c.loop.entries.items c.push.new.self.items c.loop.position c.draw_entry.new.self c.draw_entry.result (c.args.count - c.loop.counter) (c.args.count - (c.loop.counter + 1))
-      _ c.loop.invariant.whole less c.in_ok-push.ensures.items c.draw_entry.ensures.value c.draw_entry.ensures.past;
-  end = position_more c.loop.position c.draw_entry.new.self _ (c.args.count - c.loop.counter) (c.args.count - (c.loop.counter + 1)) c.loop.invariant.end less c.draw_entry.ensures.past;
-  counted = omega (arith, c.loop.invariant.counted, c.in_ok-push.ensures.len);
-  networks = search rules;
+pub loop-i-preserved : goal.loop-i-preserved
+loop-i-preserved c = record {
+  late = omega (arith, c.loop-i.invariant.late, c.draw_entry.ensures.time);
+  whole = entry_more (take c.loop-i.i c.loop-i.entries) _ c.loop-i.position c.draw_entry.new.self c.draw_entry.result (c.args.count - c.loop-i.i) (c.args.count - (c.loop-i.i + 1))
+      _ c.loop-i.invariant.whole less (take_more_set c.loop-i.entries c.loop-i.i c.draw_entry.result inside) c.draw_entry.ensures.value c.draw_entry.ensures.past;
+  end = position_more c.loop-i.position c.draw_entry.new.self _ (c.args.count - c.loop-i.i) (c.args.count - (c.loop-i.i + 1)) c.loop-i.invariant.end less c.draw_entry.ensures.past;
+  size = length-set c.loop-i.entries c.loop-i.i c.draw_entry.result ∙ c.loop-i.invariant.size;
 }
   where
-    less : c.args.count - c.loop.counter ≡ suc (c.args.count - (c.loop.counter + 1))
-    less = omega (arith, c.loop-test.true)
+    less : c.args.count - c.loop-i.i ≡ suc (c.args.count - (c.loop-i.i + 1))
+    less = omega (arith, c.loop-i-test.true)
+
+    inside : c.loop-i.i < length c.loop-i.entries
+    inside = omega (arith, c.loop-i-test.true, c.requires.room, c.loop-i.invariant.size)
 
 pub returns-clause-entries : goal.returns-clause-entries
-returns-clause-entries c = all_entries c.loop.entries.items _ c.loop.position (c.args.count - c.loop.counter) c.loop.invariant.whole (omega (arith, c.loop-test.false, c.loop.auto.counter-end))
-
-pub returns-clause-count : goal.returns-clause-count
-returns-clause-count c = omega (arith, c.loop.invariant.counted, c.loop-test.false, c.loop.auto.counter-end)
-
-pub returns-clause-networks : goal.returns-clause-networks
-returns-clause-networks c = c.loop.invariant.networks
+returns-clause-entries c = ap (λ n. take n c.loop-i.entries) (sym at_count) ∙ all_entries (take c.loop-i.i c.loop-i.entries) _ c.loop-i.position (c.args.count - c.loop-i.i) c.loop-i.invariant.whole (omega (arith, at_count))
+  where
+    at_count : c.loop-i.i ≡ c.args.count
+    at_count = omega (arith, c.loop-i-test.false, c.loop-i.auto.i-end)
 
 pub returns-clause-after : goal.returns-clause-after
-returns-clause-after c = at_end c.loop.position _ (c.args.count - c.loop.counter) c.loop.invariant.end (omega (arith, c.loop-test.false, c.loop.auto.counter-end))
+returns-clause-after c = at_end c.loop-i.position _ (c.args.count - c.loop-i.i) c.loop-i.invariant.end (omega (arith, c.loop-i-test.false, c.loop-i.auto.i-end))

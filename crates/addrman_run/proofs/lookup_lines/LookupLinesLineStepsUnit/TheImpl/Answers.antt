@@ -1,0 +1,5 @@
+use Rattle.std.proofs.Common.{refl}
+use Rattle.addrman_run.proofs.lookup_lines.LookupLinesLineStepsUnit.TheImpl.Goals as goal
+
+pub keeps_world-tells : goal.keeps_world-tells
+keeps_world-tells g c = λ is old new before after line text one. refl

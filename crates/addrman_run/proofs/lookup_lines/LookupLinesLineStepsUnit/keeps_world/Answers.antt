@@ -1,5 +1,0 @@
-use Rattle.std.proofs.Common.{refl}
-use Rattle.addrman_run.proofs.lookup_lines.LookupLinesLineStepsUnit.keeps_world.Goals as goal
-
-pub returns : goal.returns
-returns c = λ is old new before after line text one. refl
