@@ -240,7 +240,8 @@ def age(newest: int, time: int) -> int:
 
 
 def classes(tables: Tables, by: str) -> list[tuple[object, str] | None]:
-    """The class of the record in each slot and its name. Classes are in order as the bytes that they are compared by."""
+    """The class of the record in each slot and its name. Classes are in order as the bytes that
+    they are compared by."""
     newest = max((record.time for record in tables.records.values()), default=0)
 
     @cache

@@ -142,8 +142,10 @@ class Tables:
         """The record at each slot of a table with so many buckets."""
         found: list[Record | None] = []
         for bucket in range(buckets):
-            slots = table.get(bucket, {})
-            found += [self.occupant(table, bucket, slot) for slot in range(places.SLOTS)] if slots else [None] * places.SLOTS
+            if table.get(bucket):
+                found += [self.occupant(table, bucket, slot) for slot in range(places.SLOTS)]
+            else:
+                found += [None] * places.SLOTS
         return found
 
     def occupy(self, record: Record, bucket: int, slot: int):
