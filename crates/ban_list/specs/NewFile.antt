@@ -1,5 +1,6 @@
 -- The file that is written for a list by the rule of Bitcoin Core: what the old file has besides
--- its bans stays in it as it is and in its order, and so does what the element of a ban has besides.
+-- its bans stays in it as it is and in its order, and so does what the element of a ban has
+-- besides.
 use Rattle.std.specs.Prelude.{◌≡◌, ℕ, List, [], ◌∷◌, ◌++◌, map, filter, flat_map, codes, decimal, Bool, ◌||◌, not, ⊤, Option, Some, None, if◌then◌else◌}
 use Rattle.std.specs.Cmp.Lexicographic.{slice_cmp}
 use Rattle.std.specs.List.Sorted.{IsPermutation, IsSortedBy}
@@ -60,7 +61,8 @@ AreOldElements (e ∷ es) = IsOldElement e.0 e.1 × AreOldElements es
 
 -- the bytes are a text of an object with these members, and these are the elements of the array
 -- under `banned_nets`: of several members of that name the last one's
-pub record IsOldFile (bytes : List ℕ) (members : List Member) (elements : List Element) : Type 0 where
+pub record IsOldFile (bytes : List ℕ) (members : List Member) (elements : List Element)
+    : Type 0 where
   pub text : document bytes ≡ Some (object (members_of members))
   pub list : get (codes "banned_nets") (object (members_of members))
       ≡ Some (array (items_of (map (λ e. e.0) elements)))

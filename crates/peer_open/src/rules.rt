@@ -52,7 +52,7 @@ impl OpenRules {
         }
     }
 
-    /// Returns the group that a peer counts in, which has this address and is in this network group.
+    /// Returns the group that a peer of this address and network group counts in.
     pub fn counted_group(
         &self,
         addr: &NetAddr,

@@ -16,7 +16,8 @@ in_block ids (Some block) mask slot =
 -- what a slot has, by its index among the slots of both tables
 unfoldable pub occupant : List (List ℕ) → List (Option ℕ) → List ℕ → ℕ → Option ℕ
 occupant ids blocks masks index =
-    in_block ids (get_or blocks (index / SLOTS) None) (get_or masks (index / SLOTS) 0) (index % SLOTS)
+    in_block ids (get_or blocks (index / SLOTS) None) (get_or masks (index / SLOTS) 0)
+    (index % SLOTS)
 
 -- the slots of both tables
 unfoldable pub slots_of : List (List ℕ) → List (Option ℕ) → List ℕ → Slots
@@ -44,14 +45,17 @@ pub record AreStored (ids : List (List ℕ)) (blocks : List (Option ℕ)) (masks
   pub bits : AreMasks (slots_of ids blocks masks) masks
 
 -- each other bucket has its block, this one too if it had one, and each block has its ids
-pub record IsGrown (bucket : ℕ) (ids : List (List ℕ)) (blocks : List (Option ℕ)) (new_ids : List (List ℕ)) (new_blocks : List (Option ℕ)) : Type 0 where
-  pub others : (other : ℕ) → other ≢ bucket → get_or new_blocks other None ≡ get_or blocks other None
+pub record IsGrown (bucket : ℕ) (ids : List (List ℕ)) (blocks : List (Option ℕ))
+    (new_ids : List (List ℕ)) (new_blocks : List (Option ℕ)) : Type 0 where
+  pub others : (other : ℕ) → other ≢ bucket
+      → get_or new_blocks other None ≡ get_or blocks other None
   pub same : (block : ℕ) → get_or blocks bucket None ≡ Some block
       → get_or new_blocks bucket None ≡ Some block
   pub kept : (block : ℕ) → block < length ids → get_or new_ids block [] ≡ get_or ids block []
 
 -- one slot of a bucket has another id, once the mask says so
-pub record IsKept (bucket slot : ℕ) (id : Option ℕ) (ids : List (List ℕ)) (blocks : List (Option ℕ)) (new_ids : List (List ℕ)) (new_blocks : List (Option ℕ)) : Type 0 where
+pub record IsKept (bucket slot : ℕ) (id : Option ℕ) (ids : List (List ℕ)) (blocks : List (Option ℕ))
+    (new_ids : List (List ℕ)) (new_blocks : List (Option ℕ)) : Type 0 where
   pub others : (other at mask : ℕ) → other ≢ bucket
       → in_block new_ids (get_or new_blocks other None) mask at
       ≡ in_block ids (get_or blocks other None) mask at

@@ -73,7 +73,7 @@ fn explain(
     )?;
     if !ran.is_steady {
         eprintln!(rt;
-            "  the files, what crashes leave of them, the calls or the rest of the log are not as wanted, or memory ran out"
+            "  files, what crashes leave, calls or the rest of the log differ, or memory ran out"
         )?;
     }
     Ok(())
