@@ -90,7 +90,7 @@ impl<'a, H: BuildHasher> OpenerLog<'a, H> {
 
 /// The lines of a log, one step a line. They change nothing besides the log's own state.
 impl<'a, H: BuildHasher> LineSteps<()> for OpenerLog<'a, H> {
-    ghost use Rattle.std.specs.Prelude.{◌+◌, ◌*◌, ◌<◌, ◌^◌, ⊤};
+    ghost use Rattle.std.specs.Prelude.{◌≡◌, ◌+◌, ◌*◌, ◌<◌, ◌^◌, false, ⊤};
     ghost use Rattle.opener_lines.specs.Grammar.{HasRequestFault};
     ghost use Rattle.opener_lines.specs.Lines.{LineStep};
 
@@ -103,7 +103,9 @@ impl<'a, H: BuildHasher> LineSteps<()> for OpenerLog<'a, H> {
     // Each line takes at most a thousand numbers.
     ghost has_room = { λ l n. l.machine.tables.next_number + 1000 * n < 2 ^ 62 };
 
-    fn keeps_world(&self) -> bool {
+    fn keeps_world(&self) -> bool
+        ensures { result ≡ false }
+    {
         false
     }
 

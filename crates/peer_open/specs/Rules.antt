@@ -9,7 +9,6 @@ use Rattle.net_addr.specs.declared.net.Net.{Net}
 use Rattle.net_addr.specs.declared.net.Net.TheVariants.{Ipv4, Ipv6}
 use Rattle.net_addr.specs.declared.peer.Peer.{Peer}
 use Rattle.peer_open.specs.declared.rules.OpenRules.{OpenRules}
-use Rattle.peer_open.specs.declared.rules.TheConstants.{BAD_PORTS}
 
 -- the rules without options
 abbrev pub no_rules : OpenRules
@@ -38,8 +37,18 @@ is_ip Ipv4 = true
 is_ip Ipv6 = true
 is_ip other = false
 
+-- the ports of other services
+abbrev pub bad_ports : List ℕ
+bad_ports =
+    1 ∷ 7 ∷ 9 ∷ 11 ∷ 13 ∷ 15 ∷ 17 ∷ 19 ∷ 20 ∷ 21 ∷ 22 ∷ 23 ∷ 25 ∷ 37 ∷ 42 ∷ 43 ∷ 53 ∷ 69 ∷ 77 ∷
+    79 ∷ 87 ∷ 95 ∷ 101 ∷ 102 ∷ 103 ∷ 104 ∷ 109 ∷ 110 ∷ 111 ∷ 113 ∷ 115 ∷ 117 ∷ 119 ∷ 123 ∷ 135 ∷
+    137 ∷ 139 ∷ 143 ∷ 161 ∷ 179 ∷ 389 ∷ 427 ∷ 465 ∷ 512 ∷ 513 ∷ 514 ∷ 515 ∷ 526 ∷ 530 ∷ 531 ∷
+    532 ∷ 540 ∷ 548 ∷ 554 ∷ 556 ∷ 563 ∷ 587 ∷ 601 ∷ 636 ∷ 989 ∷ 990 ∷ 993 ∷ 995 ∷ 1719 ∷ 1720 ∷
+    1723 ∷ 2049 ∷ 3306 ∷ 3389 ∷ 3659 ∷ 4045 ∷ 5060 ∷ 5061 ∷ 5432 ∷ 5900 ∷ 6000 ∷ 6566 ∷ 6665 ∷
+    6666 ∷ 6667 ∷ 6668 ∷ 6669 ∷ 6697 ∷ 10080 ∷ 27017 ∷ []
+
 abbrev pub is_bad_port : ℕ → Bool
-is_bad_port port = list_any (λ bad. bad == port) BAD_PORTS
+is_bad_port port = list_any (λ bad. bad == port) bad_ports
 
 -- an IPv4 or IPv6 peer with the port of another service is passed over before the 50th try
 abbrev pub has_bad_port : OpenRules → Peer → ℕ → Bool
