@@ -1,5 +1,5 @@
 -- When a peer is taken for an outbound connection.
-use Rattle.std.specs.Prelude.{◌≡◌, ℕ, List, false}
+use Rattle.std.specs.Prelude.{◌≡◌, ◌⊎◌, ℕ, List, length, false}
 use Rattle.net_addr.specs.NetSet.{all}
 use Rattle.net_addr.specs.declared.peer.Peer.{Peer}
 use Rattle.placing.specs.Places.{Places, group}
@@ -8,6 +8,7 @@ use Rattle.table_machine.specs.State.{State}
 use Rattle.table_machine.specs.Picks.{select}
 use Rattle.peer_open.specs.Groups.{Outbound}
 use Rattle.peer_open.specs.Verdicts.{judge}
+use Rattle.peer_open.specs.declared.opener.TheConstants.{MAX_OUTBOUND}
 use Rattle.peer_open.specs.declared.outbound.Verdict.TheVariants.{Take}
 
 -- the random words pick the peer, and the rules take it in the try of this number
@@ -16,3 +17,9 @@ pub record IsTaken (st : State) (places : Places) (open_peers : List Outbound) (
   pub last_try : ℕ
   pub picked : select st false all words now ≡ One peer last_try
   pub judged : judge open_peers (group places peer.addr) last_try now tries ≡ Take
+
+-- as many are open as may be, or no peer is taken
+abbrev pub IsNoneTaken : State → Places → List Outbound → List ℕ → ℕ → ℕ → Type 0
+IsNoneTaken st places open_peers words now tries =
+    (length open_peers ≡ MAX_OUTBOUND)
+    ⊎ ((peer : Peer) → IsTaken st places open_peers words now tries peer → ⊥)

@@ -1,7 +1,7 @@
 ghost use Rattle.std.specs.Prelude.{◌≡◌, IfSome, IfNone};
 ghost use Rattle.placing.specs.Places.{group};
 ghost use Rattle.peer_open.specs.Groups.{AreApart, with_peer};
-ghost use Rattle.first_open.specs.Taken.{IsTaken};
+ghost use Rattle.first_open.specs.Taken.{IsNoneTaken, IsTaken};
 
 use net_addr::{NetSet, Peer};
 use node_calls::select;
@@ -26,7 +26,9 @@ pub(crate) fn try_open<H: BuildHasher>(
         IsTaken tables.now placer.now opener.old words.now now tries peer) }
     ensures open { IfSome result (λ peer.
         opener.new ≡ with_peer peer (group placer.now peer.addr) opener.old) }
-    ensures none { IfNone result (opener.new ≡ opener.old) }
+    ensures same { IfNone result (opener.new ≡ opener.old) }
+    ensures none { IfNone result
+        (IsNoneTaken tables.now placer.now opener.old words.now now tries) }
     ensures apart { AreApart opener.new }
 {
     if opener.len() == MAX_OUTBOUND {
