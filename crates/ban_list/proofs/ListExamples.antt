@@ -97,7 +97,7 @@ besides_both : ban_tree old (ban_of small 5 9) ≡ json.object (members_of (own_
 unfolding same_address
 besides_both = refl
 
--- one of another subnet has its four members alone
+-- one of another subnet has only its four members
 only_four : ban_tree old (ban_of nine 5 9) ≡ json.object (members_of (own_members (ban_of nine 5 9)))
 unfolding same_address
 only_four = refl

@@ -122,8 +122,8 @@ impl Opener {
         was_open
     }
 
-    /// Returns the open peers, in the order in which they were opened. Of all calls it alone takes
-    /// memory.
+    /// Returns the open peers, in the order in which they were opened. It is the only call
+    /// that takes memory.
     pub fn peers(&self, alloc: Global) -> Result<Vec<Peer>, AllocError>
         ensures { IfOk result (λ found. found.items ≡ peers self.now) }
     {

@@ -38,7 +38,7 @@ kind_of st in_new nets now test likely = record {
 abbrev pub kinds_of : State → Bool → List ℕ → ℕ → (Rec → Bool) → List Kind
 kinds_of st in_new nets now test = map (kind_of st in_new nets now test) chances
 
--- Of `unit` searches of a table, how many end at peers of a set, at most: from these kinds alone,
+-- Of `unit` searches of a table, how many end at peers of a set, at most: from these kinds only,
 -- with so many refusals looked ahead.
 abbrev pub bound_of : State → Bool → List ℕ → ℕ → (Peer → Bool) → ℕ → ℕ → ℕ
 bound_of st in_new nets now theirs unit ahead =

@@ -19,7 +19,7 @@ use risk_tries::tries_are_bounded;
 
 /// Of the (2^64)^n lists of n random words, for every n, `select` returns a peer of a group for at
 /// most the part that its row says, in parts of a million: from both tables, or from the new one
-/// alone. A search of the tried table ends at one for at most the part `tried`. If the tables know
+/// only. A search of the tried table ends at one for at most the part `tried`. If the tables know
 /// of no try, the text is the same at any time from 600 seconds since 1970 on.
 pub fn rows_are_bounds()
     ensures picks { (st : State) (by : By) (g : List ℕ) (now first n : ℕ) (theirs : Peer → Bool) →
