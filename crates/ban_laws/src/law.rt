@@ -1,0 +1,13 @@
+ghost use Rattle.std.specs.Prelude.{◌≡◌, ℕ, All, List, Option, Some};
+ghost use Rattle.ban_laws.specs.Times.{HasTimes};
+ghost use Rattle.ban_list.specs.NewFile.{IsNamedFile, named_tree};
+ghost use Rattle.ban_list.specs.declared.ban.Ban.{Ban};
+ghost use Rattle.json.specs.Json.{document};
+
+/// What is written of a list by the rule of Bitcoin Core reads as the value that it was written
+/// for: the old members in their order, with the bans and the elements that are no bans in the list.
+pub fn files_have_values()
+    ensures { (old : Option (List ℕ)) (bans : List Ban) (text : List ℕ) → All HasTimes bans →
+        (file : IsNamedFile old bans text) →
+        document text ≡ Some (named_tree file.members file.elements file.sorted) }
+{}
