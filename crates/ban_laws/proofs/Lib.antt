@@ -1,2 +1,6 @@
 pub mod Parts
 pub mod Values
+pub mod Distinct
+pub mod Found
+pub mod Data
+pub mod Lists

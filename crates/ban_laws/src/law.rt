@@ -1,7 +1,11 @@
-ghost use Rattle.std.specs.Prelude.{◌≡◌, ℕ, All, List, Option, Some};
+ghost use Rattle.std.specs.Prelude.{◌≡◌, ℕ, All, IsUtf8, List, Option, Some};
+ghost use Rattle.ban_laws.specs.Known.{HasName, WasRead};
 ghost use Rattle.ban_laws.specs.Times.{HasTimes};
+ghost use Rattle.ban_list.specs.BanFile.{IsListFile};
+ghost use Rattle.ban_list.specs.Bans.{AreBans};
 ghost use Rattle.ban_list.specs.NewFile.{IsNamedFile, named_tree};
 ghost use Rattle.ban_list.specs.declared.ban.Ban.{Ban};
+ghost use Rattle.ban_list.specs.declared.ban.BanRule.TheVariants.{Names};
 ghost use Rattle.json.specs.Json.{document};
 
 /// What is written of a list by the rule of Bitcoin Core reads as the value that it was written
@@ -10,4 +14,12 @@ pub fn files_have_values()
     ensures { (old : Option (List ℕ)) (bans : List Ban) (text : List ℕ) → All HasTimes bans →
         (file : IsNamedFile old bans text) →
         document text ≡ Some (named_tree file.members file.elements file.sorted) }
+{}
+
+/// It is the file of the same bans, sorted, and of no others, if the old file is one that is read,
+/// and the name of each ban's subnet parses as the subnet.
+pub fn lists_are_read_back()
+    ensures { (old : Option (List ℕ)) (bans : List Ban) (text : List ℕ) → AreBans bans →
+        All HasName bans → WasRead old → IsUtf8 text → (file : IsNamedFile old bans text) →
+        IsListFile Names text file.sorted }
 {}
