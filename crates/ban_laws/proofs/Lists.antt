@@ -1,5 +1,5 @@
 -- What is written is read as the list of the same bans.
-use Rattle.std.proofs.Common.{◌≡◌, ℕ, suc, ◌≤◌, List, [], ◌∷◌, ◌++◌, map, flat_map, length, All, IsUtf8, Option, Some, None, option_and_then, option_map, codes, decimal, min, refl, sym, ap, ◌∙◌, subst, arith, inr, true, append-nil}
+use Rattle.std.proofs.Common.{◌≡◌, ℕ, suc, ◌≤◌, List, [], ◌∷◌, ◌++◌, map, flat_map, length, All, Option, Some, None, option_and_then, option_map, codes, decimal, min, refl, sym, ap, ◌∙◌, subst, arith, inr, true, append-nil}
 use Rattle.std.specs.Prelude.{⊤}
 use Rattle.std.proofs.lemmas.List.Elements.{All-head, All-tail, All-weaker}
 use Rattle.std.proofs.lemmas.List.Sorted.{All-permutation, length_permutation}
@@ -28,7 +28,7 @@ use Rattle.ban_list.specs.declared.subnet.Subnet.{Subnet}
 use Rattle.ban_list.proofs.FileLaws.{file_of}
 use Rattle.ban_list.proofs.OldLaws.{Some_inj, get_read, last, map_some, read_or, then_some, tree_reads}
 use Rattle.ban_list.proofs.WriteLaws.{merged_onto}
-use Rattle.ban_laws.specs.Known.{HasName, WasRead}
+use Rattle.ban_laws.specs.Known.{HasName}
 use Rattle.ban_laws.specs.Times.{HasTimes}
 use Rattle.ban_laws.proofs.Data.{Any, IsData, closed, data_of, items_known, known, number_is, own_is}
 use Rattle.ban_laws.proofs.Distinct.{distinct-permutation}
@@ -105,21 +105,21 @@ module _ (bytes : List ℕ) (d : Data) (is : read bytes ≡ Some d) where
       let same = Some_inj (i, []) (j, []) (one_reading 127 128 (tokens bytes) (i, []) (j, []) (last _ i whole) (last _ j tree)) in
       subst (λ (x : Json). depth x ≤ 127) (ap (λ p. p.0) same) (value-depth 127 (tokens bytes) [] i (last _ i whole))
 
-old_shallow : (old : Option (List ℕ)) → WasRead old → IsShallow 127 old
-old_shallow None was = tt
-old_shallow (Some bytes) was = read_shallow bytes was.0 was.1.1
+old_shallow : (old : Option (List ℕ)) (ms : List Member) (es : List Element) → IsOld old ms es → IsShallow 127 old
+old_shallow None ms es is = tt
+old_shallow (Some bytes) ms es is = read_shallow bytes is.value is.is_read
 
-old_data : (old : Option (List ℕ)) (ms : List Member) (es : List Element) → WasRead old → IsOld old ms es → OldHolds Any IsData closed 127 old ms
-old_data None ms es was is = tt
-old_data (Some bytes) ms es was is = (was.0, tree_reads bytes was.0 (json.object (members_of ms)) was.1.1 is.text)
+old_data : (old : Option (List ℕ)) (ms : List Member) (es : List Element) → IsOld old ms es → OldHolds Any IsData closed 127 old ms
+old_data None ms es is = tt
+old_data (Some bytes) ms es is = (is.value, tree_reads bytes is.value (json.object (members_of ms)) is.is_read is.text)
 
 printed : (tree : Json) → HasNumbers tree → depth tree ≤ 127 → read (print (json_tokens tree)) ≡ of_json tree
 printed tree numbers shallow =
     ap (λ ts. option_and_then of_json (option_and_then (λ p. if_last p.0 p.1) (value 127 ts))) (tokens-print (json_tokens tree) (ArePrintable-json_tokens tree numbers) ∙ sym (append-nil (json_tokens tree)))
     ∙ ap (λ o. option_and_then of_json (option_and_then (λ p. if_last p.0 p.1) o)) (value-json_tokens tree 127 [] shallow)
 
-pub reads_back : (old : Option (List ℕ)) (bans : List Ban) (text : List ℕ) → AreBans bans → All HasName bans → WasRead old → IsUtf8 text → (file : IsNamedFile old bans text) → IsListFile Names text file.sorted
-reads_back old bans text are names was utf8 file =
+pub reads_back : (old : Option (List ℕ)) (bans : List Ban) (text : List ℕ) → AreBans bans → All HasName bans → (file : IsNamedFile old bans text) → IsListFile Names text file.sorted
+reads_back old bans text are names file =
     let ms = file.members in
     let es = file.elements in
     let sorted = file.sorted in
@@ -128,8 +128,8 @@ reads_back old bans text are names was utf8 file =
     let tree = named_tree ms es sorted in
     let named = All-permutation HasName bans sorted file.same names in
     let own = All-weaker HasName (HasOwn Any IsData closed 124) (λ ban has. own_is 124 ban has.times) sorted named in
-    let kept = old_data old ms es was file.is_old in
-    let fits = new_fits 124 old bans text (old_shallow old was) (All-weaker HasName HasTimes (λ ban has. has.times) bans names) file in
+    let kept = old_data old ms es file.is_old in
+    let fits = new_fits 124 old bans text (old_shallow old ms es file.is_old) (All-weaker HasName HasTimes (λ ban has. has.times) bans names) file in
     let whole : IsData 127 tree = new_holds Any IsData closed 124 old ms es sorted file.is_old kept own in
     let listed : Are Any IsData 125 js = new_list Any IsData closed 124 old ms es sorted file.is_old kept own in
     let elements = (old_holds Any IsData closed 124 old ms es file.is_old kept).1 in
@@ -140,4 +140,4 @@ reads_back old bans text are names was utf8 file =
     let rest = passed 125 es (old_elements old ms es file.is_old) elements in
     let long = length_permutation bans sorted file.same in
     let distinct = distinct-permutation bans sorted file.same are.distinct in
-    file_of Names text (data_of tree) (map data_of js) sorted sorted (utf8, is_read) form (counted 125 es others sorted listed named rest) (omega (arith, long, are.few)) (sym (merged_onto [] sorted distinct))
+    file_of Names text (data_of tree) (map data_of js) sorted sorted (file.utf8, is_read) form (counted 125 es others sorted listed named rest) (omega (arith, long, are.few)) (sym (merged_onto [] sorted distinct))

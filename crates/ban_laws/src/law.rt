@@ -1,5 +1,5 @@
-ghost use Rattle.std.specs.Prelude.{◌≡◌, ℕ, All, IsUtf8, List, Option, Some};
-ghost use Rattle.ban_laws.specs.Known.{HasName, WasRead};
+ghost use Rattle.std.specs.Prelude.{◌≡◌, ℕ, All, List, Option, Some};
+ghost use Rattle.ban_laws.specs.Known.{HasName};
 ghost use Rattle.ban_laws.specs.Times.{HasTimes};
 ghost use Rattle.ban_list.specs.BanFile.{IsListFile};
 ghost use Rattle.ban_list.specs.Bans.{AreBans};
@@ -16,10 +16,9 @@ pub fn files_have_values()
         document text ≡ Some (named_tree file.members file.elements file.sorted) }
 {}
 
-/// It is the file of the same bans, sorted, and of no others, if the old file is one that is read,
-/// and the name of each ban's subnet parses as the subnet.
+/// It is the file of the same bans, sorted, and of no others, if the name of each ban's subnet
+/// parses as the subnet.
 pub fn lists_are_read_back()
     ensures { (old : Option (List ℕ)) (bans : List Ban) (text : List ℕ) → AreBans bans →
-        All HasName bans → WasRead old → IsUtf8 text → (file : IsNamedFile old bans text) →
-        IsListFile Names text file.sorted }
+        All HasName bans → (file : IsNamedFile old bans text) → IsListFile Names text file.sorted }
 {}

@@ -162,9 +162,9 @@ elements_first [] subnets long = refl
 elements_first (j ∷ js) [] long = absurd (omega (arith, long))
 elements_first (j ∷ js) (s ∷ subnets) long = ap (λ xs. j ∷ xs) (elements_first js subnets (omega (arith, long)))
 
-pub ok_then : {V E : Type 0} (P Q : V → Type 0) → ((v : V) → P v → Q v) → (r : Result V E) → IfOk r P → IfOk r Q
-ok_then P Q f (Ok v) p = f v p
-ok_then P Q f (Err e) p = tt
+pub ok_both : {V E : Type 0} (P Q R : V → Type 0) → ((v : V) → P v → Q v → R v) → (r : Result V E) → IfOk r P → IfOk r Q → IfOk r R
+ok_both P Q R f (Ok v) p q = f v p q
+ok_both P Q R f (Err e) p q = tt
 
 items_all : (js : json.Items) → ItemsHaveNumbers js → All HasNumbers (item_list js)
 items_all json.no_items have = All-nil HasNumbers
@@ -197,6 +197,8 @@ named_over bytes d ds subnets j members js is listed are tree whole found =
       long,
       record {
         text = tree ∙ ap Some whole;
+        value = d;
+        is_read = is;
         list = array ∙ ap (λ xs. Some (json.array (items_of xs))) (sym (elements_first js subnets long));
         are = all;
       },
