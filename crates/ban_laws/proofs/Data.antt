@@ -1,17 +1,17 @@
 -- What is written reads as data: no number in it is too large for a float.
-use Rattle.std.proofs.Common.{◌≡◌, ℕ, suc, ◌≤◌, List, [], ◌∷◌, map, Option, Some, None, option_and_then, option_map, codes, decimal, refl, sym, ap, ◌∙◌, subst, arith}
+use Rattle.std.proofs.Common.{◌≡◌, ℕ, suc, ◌≤◌, List, [], ◌∷◌, map, Option, Some, None, option_and_then, option_map, decimal, refl, sym, ap, ◌∙◌, arith}
 use Rattle.std.specs.Prelude.{⊤}
 use Rattle.json.specs.Json as json
 use Rattle.json.specs.Json.{Json}
 use Rattle.serde_json.specs.Data.{Data, Items, Members, array, item, no_items, no_members, null, number, object, put, string, unsigned}
-use Rattle.serde_json.specs.Read.{number_of, of_items, of_json, of_members}
+use Rattle.serde_json.specs.Read.{of_items, of_json, of_members}
 use Rattle.serde_json.specs.View as shown
 use Rattle.serde_json.proofs.Numbers.{number_of-decimal}
-use Rattle.ban_list.specs.NewFile.{Member, items_of, members_list, members_of, own_members}
+use Rattle.ban_list.specs.NewFile.{Member, items_of, members_list, members_of}
 use Rattle.ban_list.specs.SubnetText.{subnet_name}
 use Rattle.ban_list.specs.declared.ban.Ban.{Ban}
 use Rattle.ban_list.proofs.OldLaws.{map_some, then_some}
-use Rattle.ban_laws.specs.Times.{HasTimes}
+use Rattle.ban_laws.specs.Known.{HasTimes}
 use Rattle.ban_laws.proofs.Parts.{Are, Each, HasOwn, IsClosed}
 
 -- the value is data, at whatever depth

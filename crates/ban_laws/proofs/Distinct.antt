@@ -1,10 +1,10 @@
 -- Bans of distinct subnets are of distinct ones in any order.
-use Rattle.std.proofs.Common.{◌≡◌, ℕ, zero, suc, ◌<◌, List, [], ◌∷◌, length, get_or, set, swap, All, Bool, true, false, refl, sym, ap, ◌∙◌, subst, arith}
+use Rattle.std.proofs.Common.{◌≡◌, ℕ, zero, suc, ◌<◌, List, [], ◌∷◌, length, get_or, set, swap, Bool, true, false, refl, sym, ap, ◌∙◌, arith}
 use Rattle.std.specs.Prelude.{AllPairs, IsPermutation}
 use Rattle.std.proofs.lemmas.List.Elements.{All-cons, All-head, All-tail}
 use Rattle.std.proofs.lemmas.List.Kept.{AllPairs-cons}
 use Rattle.std.proofs.lemmas.List.Sorted.{All-permutation, IsPermutation-cons, IsPermutation-keeps, IsPermutation-middle, IsPermutation-refl, IsPermutation-trans}
-use Rattle.ban_list.specs.Bans.{is_of, same_subnet}
+use Rattle.ban_list.specs.Bans.{same_subnet}
 use Rattle.ban_list.specs.declared.ban.Ban.{Ban}
 use Rattle.ban_list.proofs.BanLaws.{Apart, pairs_head, pairs_tail, same_subnet-Decides}
 
@@ -29,11 +29,14 @@ turned : (x y : Ban) → Apart x y → Apart y x
 turned x y h = by x y (same_subnet y.subnet x.subnet) refl h
 
 over : (x y : Ban) (xs : List Ban) → Keeps (x ∷ y ∷ xs) (y ∷ x ∷ xs)
-over x y xs = (IsPermutation-middle (x ∷ []) y xs, λ h.
-    let head = pairs_head Apart x (y ∷ xs) h in
-    let tail = pairs_tail Apart x (y ∷ xs) h in
-    AllPairs-cons Apart y (x ∷ xs) (All-cons (Apart y) x xs (turned x y (All-head (Apart x) y xs head)) (pairs_head Apart y xs tail))
-    (AllPairs-cons Apart x xs (All-tail (Apart x) y xs head) (pairs_tail Apart y xs tail)))
+over x y xs = (
+  IsPermutation-middle (x ∷ []) y xs,
+  λ h.
+      let head = pairs_head Apart x (y ∷ xs) h in
+      let tail = pairs_tail Apart x (y ∷ xs) h in
+      AllPairs-cons Apart y (x ∷ xs) (All-cons (Apart y) x xs (turned x y (All-head (Apart x) y xs head)) (pairs_head Apart y xs tail))
+      (AllPairs-cons Apart x xs (All-tail (Apart x) y xs head) (pairs_tail Apart y xs tail)),
+)
 
 chain : (xs ys zs : List Ban) → Keeps xs ys → Keeps ys zs → Keeps xs zs
 chain xs ys zs a b = (IsPermutation-trans xs ys zs a.0 b.0, λ h. b.1 (a.1 h))

@@ -1,6 +1,5 @@
 -- What is written is read as the list of the same bans.
-use Rattle.std.proofs.Common.{◌≡◌, ℕ, suc, ◌≤◌, List, [], ◌∷◌, ◌++◌, map, flat_map, length, All, Option, Some, None, option_and_then, option_map, codes, decimal, min, refl, sym, ap, ◌∙◌, subst, arith, inr, true, append-nil}
-use Rattle.std.specs.Prelude.{⊤}
+use Rattle.std.proofs.Common.{◌≡◌, ℕ, ◌≤◌, List, [], ◌∷◌, ◌++◌, map, flat_map, All, Option, Some, None, option_and_then, option_map, codes, decimal, min, refl, sym, ap, ◌∙◌, subst, arith, inr, true, append-nil}
 use Rattle.std.proofs.lemmas.List.Elements.{All-head, All-tail, All-weaker}
 use Rattle.std.proofs.lemmas.List.Sorted.{All-permutation, length_permutation}
 use Rattle.json.specs.Find as find
@@ -8,28 +7,24 @@ use Rattle.json.specs.Json as json
 use Rattle.json.specs.Json.{Json, document, if_last, value}
 use Rattle.json.specs.Lex.{tokens}
 use Rattle.json.specs.Print.{print}
-use Rattle.json.specs.Token.{Token}
 use Rattle.json.specs.Tree.{HasNumbers, depth, json_tokens}
 use Rattle.json.proofs.Found.{one_reading}
 use Rattle.json.proofs.Nesting.{value-depth}
 use Rattle.json.proofs.Printed.Tokens.{tokens-print}
 use Rattle.json.proofs.Printed.Trees.{ArePrintable-json_tokens, value-json_tokens}
-use Rattle.serde_json.specs.Data.{Data, array, no_members, number, object, string, unsigned}
+use Rattle.serde_json.specs.Data.{Data, array, no_members, object, unsigned}
 use Rattle.serde_json.specs.Find.{as_array, as_number, as_str, as_u64, get}
-use Rattle.serde_json.specs.Read.{of_items, of_json, of_members, read}
-use Rattle.serde_json.specs.View as shown
+use Rattle.serde_json.specs.Read.{of_json, of_members, read}
 use Rattle.ban_list.specs.BanFile.{AreElements, HasElements, IsElement, IsListFile, clamped, max_time, number_at, time_at}
 use Rattle.ban_list.specs.Bans.{AreBans}
-use Rattle.ban_list.specs.NewFile.{AreOldElements, Element, IsNamedFile, IsOld, Member, ban_tree, besides_at, is_ban_name, items_of, list_tree, members_of, named_tree, other_of, own_members, with_list}
+use Rattle.ban_list.specs.NewFile.{AreOldElements, Element, IsNamedFile, IsOld, Member, ban_tree, besides_at, is_ban_name, list_tree, members_of, named_tree, other_of, own_members, with_list}
 use Rattle.ban_list.specs.SubnetText.{subnet_name}
 use Rattle.ban_list.specs.declared.ban.Ban.{Ban}
 use Rattle.ban_list.specs.declared.ban.BanRule.TheVariants.{Names}
-use Rattle.ban_list.specs.declared.subnet.Subnet.{Subnet}
 use Rattle.ban_list.proofs.FileLaws.{file_of}
 use Rattle.ban_list.proofs.OldLaws.{Some_inj, get_read, last, map_some, read_or, then_some, tree_reads}
 use Rattle.ban_list.proofs.WriteLaws.{merged_onto}
-use Rattle.ban_laws.specs.Known.{HasName}
-use Rattle.ban_laws.specs.Times.{HasTimes}
+use Rattle.ban_laws.specs.Known.{HasName, HasTimes}
 use Rattle.ban_laws.proofs.Data.{Any, IsData, closed, data_of, items_known, known, number_is, own_is}
 use Rattle.ban_laws.proofs.Distinct.{distinct-permutation}
 use Rattle.ban_laws.proofs.Found.{first_found, list_found, none_found, others_found}
@@ -135,8 +130,8 @@ reads_back old bans text are names file =
     let elements = (old_holds Any IsData closed 124 old ms es file.is_old kept).1 in
     let is_read : read text ≡ Some (data_of tree) = ap read file.exact ∙ printed tree fits.0 fits.1 ∙ known 127 tree whole in
     let form : HasElements (data_of tree) (map data_of js) =
-        ap (option_and_then as_array) (data_found (codes "banned_nets") (with_list (list_tree es sorted) ms) 127 whole ∙ ap (λ o. read_or o None) (list_found (list_tree es sorted) ms)
-        ∙ ap (option_map array) (items_known 125 js listed)) in
+    ap (option_and_then as_array) (data_found (codes "banned_nets") (with_list (list_tree es sorted) ms) 127 whole ∙ ap (λ o. read_or o None) (list_found (list_tree es sorted) ms)
+    ∙ ap (option_map array) (items_known 125 js listed)) in
     let rest = passed 125 es (old_elements old ms es file.is_old) elements in
     let long = length_permutation bans sorted file.same in
     let distinct = distinct-permutation bans sorted file.same are.distinct in

@@ -3,7 +3,7 @@ use Rattle.std.proofs.Common.{◌≡◌, ℕ, suc, List, [], ◌∷◌, ◌++◌
 use Rattle.std.specs.Prelude.{⊤, not}
 use Rattle.std.proofs.lemmas.List.Elements.{All-head, All-tail}
 use Rattle.json.specs.Find.{get_member, later_or}
-use Rattle.json.specs.Json.{Json, Items, Members, array, boolean, null, number, object, string}
+use Rattle.json.specs.Json.{Json, Members, array, boolean, null, number, object, string}
 use Rattle.ban_list.specs.Bans.{same_subnet}
 use Rattle.ban_list.specs.NewFile.{Element, IsOld, Member, ban_tree, besides, besides_at, is_ban_name, is_list_name, items_of, list_tree, members_in, members_list, members_of, named_tree, other_of, own_members, with_list}
 use Rattle.ban_list.specs.declared.ban.Ban.{Ban}

@@ -1,21 +1,19 @@
 -- What is written reads as the value that it was written for.
-use Rattle.std.proofs.Common.{◌≡◌, ℕ, suc, ◌≤◌, max, List, [], ◌∷◌, map, All, Bool, true, false, cond, codes, decimal, Option, Some, None, option_and_then, refl, sym, ap, ◌∙◌, subst, arith}
+use Rattle.std.proofs.Common.{◌≡◌, ℕ, suc, ◌≤◌, List, [], ◌∷◌, All, Option, Some, None, option_and_then, refl, ap, ◌∙◌, subst, arith}
 use Rattle.std.specs.Prelude.{⊤}
 use Rattle.std.proofs.lemmas.List.Elements.{All-weaker}
 use Rattle.std.proofs.lemmas.List.Sorted.{All-permutation}
-use Rattle.json.specs.Json.{Json, Items, Members, array, document, if_last, item, max_depth, member, no_items, no_members, object, value}
+use Rattle.json.specs.Json.{Json, Members, document, if_last, max_depth, member, no_members, object, value}
 use Rattle.json.specs.Lex.{tokens}
-use Rattle.json.specs.Print.{print}
 use Rattle.json.specs.Token.{Token}
-use Rattle.json.specs.Tree.{HasNumbers, ItemsHaveNumbers, MembersHaveNumbers, depth, items_depth, json_tokens, members_depth}
+use Rattle.json.specs.Tree.{HasNumbers, ItemsHaveNumbers, MembersHaveNumbers, depth, items_depth, members_depth}
 use Rattle.json.proofs.Nesting.{value-depth}
 use Rattle.json.proofs.Numbered.{document-HasNumbers}
 use Rattle.json.proofs.Printed.Decimals.{IsNumber-decimal}
 use Rattle.json.proofs.Printed.Trees.{document-print}
-use Rattle.ban_list.specs.BanFile.{max_time}
-use Rattle.ban_list.specs.NewFile.{Element, IsNamedFile, IsOld, IsOldFile, Member, items_of, members_list, members_of, named_tree, own_members}
+use Rattle.ban_list.specs.NewFile.{Element, IsNamedFile, IsOld, Member, items_of, members_list, members_of, named_tree}
 use Rattle.ban_list.specs.declared.ban.Ban.{Ban}
-use Rattle.ban_laws.specs.Times.{HasTimes}
+use Rattle.ban_laws.specs.Known.{HasTimes}
 use Rattle.ban_laws.proofs.Parts.{Are, Each, HasOwn, IsClosed, OldHolds, new_holds}
 
 -- a value whose numbers are numbers, and that nests at most so deep

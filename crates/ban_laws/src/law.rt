@@ -1,6 +1,5 @@
 ghost use Rattle.std.specs.Prelude.{◌≡◌, ℕ, All, List, Option, Some};
-ghost use Rattle.ban_laws.specs.Known.{HasName};
-ghost use Rattle.ban_laws.specs.Times.{HasTimes};
+ghost use Rattle.ban_laws.specs.Known.{HasName, HasTimes};
 ghost use Rattle.ban_list.specs.BanFile.{IsListFile};
 ghost use Rattle.ban_list.specs.Bans.{AreBans};
 ghost use Rattle.ban_list.specs.NewFile.{IsNamedFile, named_tree};
