@@ -4,3 +4,4 @@ pub mod Distinct
 pub mod Found
 pub mod Data
 pub mod Lists
+pub mod Names

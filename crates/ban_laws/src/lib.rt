@@ -5,4 +5,4 @@
 
 mod law;
 
-pub use law::{files_have_values, lists_are_read_back};
+pub use law::{files_have_values, lists_are_read_back, names_are_read_back};
