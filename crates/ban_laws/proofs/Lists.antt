@@ -1,5 +1,6 @@
 -- What is written is read as the list of the same bans.
 use Rattle.std.proofs.Common.{◌≡◌, ℕ, ◌≤◌, List, [], ◌∷◌, ◌++◌, map, flat_map, All, Option, Some, None, option_and_then, option_map, codes, decimal, min, refl, sym, ap, ◌∙◌, subst, arith, inr, true, append-nil}
+use Rattle.std.specs.Prelude.{slice_index_or}
 use Rattle.std.proofs.lemmas.List.Elements.{All-head, All-tail, All-weaker}
 use Rattle.std.proofs.lemmas.List.Sorted.{All-permutation, length_permutation}
 use Rattle.json.specs.Find as find
@@ -18,7 +19,7 @@ use Rattle.serde_json.specs.Read.{of_json, of_members, read}
 use Rattle.ban_list.specs.BanFile.{AreElements, HasElements, IsElement, IsListFile, clamped, max_time, number_at, time_at}
 use Rattle.ban_list.specs.Bans.{AreBans}
 use Rattle.ban_list.specs.NewFile.{AreOldElements, Element, IsNamedFile, IsOld, Member, ban_tree, besides_at, is_ban_name, list_tree, members_of, named_tree, other_of, own_members, with_list}
-use Rattle.ban_list.specs.SubnetText.{subnet_name}
+use Rattle.ban_list.specs.SubnetText.{IsNamedText, subnet_name}
 use Rattle.ban_list.specs.declared.ban.Ban.{Ban}
 use Rattle.ban_list.specs.declared.ban.BanRule.TheVariants.{Names}
 use Rattle.ban_list.proofs.FileLaws.{file_of}
@@ -28,8 +29,20 @@ use Rattle.ban_laws.specs.Known.{HasName, HasTimes}
 use Rattle.ban_laws.proofs.Data.{Any, IsData, closed, data_of, items_known, known, number_is, own_is}
 use Rattle.ban_laws.proofs.Distinct.{distinct-permutation}
 use Rattle.ban_laws.proofs.Found.{first_found, list_found, none_found, others_found}
+use Rattle.ban_laws.proofs.Names.{name_back}
 use Rattle.ban_laws.proofs.Parts.{Are, Elements, HasOwn, OldHolds, new_holds, new_list, old_holds}
 use Rattle.ban_laws.proofs.Values.{IsShallow, new_fits}
+
+-- the name of the ban's subnet parses as the subnet, and its times are of 32 bits
+record IsRead (ban : Ban) : Type 0 where
+  subnet : IsNamedText (subnet_name ban.subnet) ban.subnet
+  times : HasTimes ban
+
+are_read : (bans : List Ban) → AreBans bans → All HasTimes bans → All (λ ban. HasName ban.subnet) bans → All IsRead bans
+are_read bans are times names k d lt = record {
+  subnet = name_back (slice_index_or bans k d).subnet (are.proper k d lt) (names k d lt);
+  times = times k d lt;
+}
 
 -- what is found in the data of an object
 data_found : (name : List ℕ) (ms : List Member) (n : ℕ) → IsData n (json.object (members_of ms)) →
@@ -41,7 +54,7 @@ data_found name ms n is =
 
 -- ---- the element of a ban
 
-module _ (es : List Element) (ban : Ban) (n : ℕ) (is : IsData n (ban_tree es ban)) (has : HasName ban) where
+module _ (es : List Element) (ban : Ban) (n : ℕ) (is : IsData n (ban_tree es ban)) (has : IsRead ban) where
   abbrev more : List Member
   more = flat_map (λ e. besides_at ban.subnet e.0 e.1) es
 
@@ -60,7 +73,7 @@ module _ (es : List Element) (ban : Ban) (n : ℕ) (is : IsData n (ban_tree es b
       let same : min k max_time ≡ k = omega (arith, small) in
       ap (option_and_then clamped) (number_found name k small own found) ∙ ap Some same
 
-  pub element_is : IsElement Names (data_of (ban_tree es ban)) ban
+  element_is : IsElement Names (data_of (ban_tree es ban)) ban
   element_is = record {
     version = ap (option_and_then as_u64) (number_found (codes "version") 1 (omega arith) refl refl);
     address = subnet_name ban.subnet;
@@ -78,12 +91,12 @@ passed n [] are h = refl
 passed n ((j, None) ∷ es) are h = (λ ban is. are.0 (data_of j) (known n j h.0) ban is, passed n es are.1 h.1)
 passed n ((j, Some own) ∷ es) are h = passed n es are.1 h.1
 
-counted : (n : ℕ) (es : List Element) (js : List Json) (bans : List Ban) → Are Any IsData n (map (ban_tree es) bans ++ js) → All HasName bans → AreElements Names (map data_of js) [] →
+counted : (n : ℕ) (es : List Element) (js : List Json) (bans : List Ban) → Are Any IsData n (map (ban_tree es) bans ++ js) → All IsRead bans → AreElements Names (map data_of js) [] →
     AreElements Names (map data_of (map (ban_tree es) bans ++ js)) bans
 unfolding AreElements
 counted n es js [] are names rest = rest
 counted n es js (ban ∷ bans) are names rest =
-    inr (element_is es ban n are.0 (All-head HasName ban bans names), counted n es js bans are.1 (All-tail HasName ban bans names) rest)
+    inr (element_is es ban n are.0 (All-head IsRead ban bans names), counted n es js bans are.1 (All-tail IsRead ban bans names) rest)
 
 old_elements : (old : Option (List ℕ)) (ms : List Member) (es : List Element) → IsOld old ms es → AreOldElements es
 unfolding AreOldElements
@@ -113,18 +126,18 @@ printed tree numbers shallow =
     ap (λ ts. option_and_then of_json (option_and_then (λ p. if_last p.0 p.1) (value 127 ts))) (tokens-print (json_tokens tree) (ArePrintable-json_tokens tree numbers) ∙ sym (append-nil (json_tokens tree)))
     ∙ ap (λ o. option_and_then of_json (option_and_then (λ p. if_last p.0 p.1) o)) (value-json_tokens tree 127 [] shallow)
 
-pub reads_back : (old : Option (List ℕ)) (bans : List Ban) (text : List ℕ) → AreBans bans → All HasName bans → (file : IsNamedFile old bans text) → IsListFile Names text file.sorted
-reads_back old bans text are names file =
+pub reads_back : (old : Option (List ℕ)) (bans : List Ban) (text : List ℕ) → AreBans bans → All HasTimes bans → All (λ ban. HasName ban.subnet) bans → (file : IsNamedFile old bans text) → IsListFile Names text file.sorted
+reads_back old bans text are times names file =
     let ms = file.members in
     let es = file.elements in
     let sorted = file.sorted in
     let others = flat_map (λ e. other_of e.0 e.1) es in
     let js = map (ban_tree es) sorted ++ others in
     let tree = named_tree ms es sorted in
-    let named = All-permutation HasName bans sorted file.same names in
-    let own = All-weaker HasName (HasOwn Any IsData closed 124) (λ ban has. own_is 124 ban has.times) sorted named in
+    let named = All-permutation IsRead bans sorted file.same (are_read bans are times names) in
+    let own = All-weaker IsRead (HasOwn Any IsData closed 124) (λ ban has. own_is 124 ban has.times) sorted named in
     let kept = old_data old ms es file.is_old in
-    let fits = new_fits 124 old bans text (old_shallow old ms es file.is_old) (All-weaker HasName HasTimes (λ ban has. has.times) bans names) file in
+    let fits = new_fits 124 old bans text (old_shallow old ms es file.is_old) times file in
     let whole : IsData 127 tree = new_holds Any IsData closed 124 old ms es sorted file.is_old kept own in
     let listed : Are Any IsData 125 js = new_list Any IsData closed 124 old ms es sorted file.is_old kept own in
     let elements = (old_holds Any IsData closed 124 old ms es file.is_old kept).1 in

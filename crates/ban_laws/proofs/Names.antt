@@ -1,5 +1,5 @@
 -- The name of a subnet parses as the subnet.
-use Rattle.std.proofs.Common.{◌≡◌, ℕ, ◌<◌, ◌≤◌, ◌^◌, List, [], ◌∷◌, ◌++◌, All, codes, decimal, length, map, get_or, refl, sym, ap, ◌∙◌, subst, arith, append-nil, inl, inr}
+use Rattle.std.proofs.Common.{◌≡◌, ℕ, ◌<◌, ◌≤◌, ◌^◌, List, [], ◌∷◌, ◌++◌, All, codes, decimal, length, map, refl, sym, ap, ◌∙◌, subst, arith, append-nil, inl, inr}
 use Rattle.std.specs.Char.{to_ascii_lowercase}
 use Rattle.std.proofs.lemmas.Fmt.{decimal_is_IsNumeral}
 use Rattle.std.proofs.lemmas.List.Elements.{All-from_get_or, All-head, All-tail}
@@ -13,9 +13,10 @@ use Rattle.net_addr.specs.declared.net.Net.TheVariants.{Unroutable, Ipv4, Ipv6, 
 use Rattle.names.specs.Name.{HasOwnName, IsLettered, IsName, IsSuffix, name_text}
 use Rattle.names.specs.Name.IsName.{dotted, colons, lettered}
 use Rattle.names.proofs.Printed.{name_reads}
-use Rattle.ban_list.specs.Subnet.{IsProper, IsWhole, width}
+use Rattle.ban_list.specs.Subnet.{IsProper, IsWhole}
 use Rattle.ban_list.specs.SubnetText.{IsNamedSubnet, IsNamedText, subnet_name}
 use Rattle.ban_list.specs.declared.subnet.Subnet.{Subnet}
+use Rattle.ban_laws.specs.Known.{HasName}
 use Rattle.ban_list.proofs.Forms.{IsLow, low_colon_hex, printed_subnet}
 
 -- ---- the last byte of a text
@@ -98,5 +99,5 @@ by_parts I2p bytes len p h name = inl (whole_back I2p bytes len tt p h (name tt)
 by_parts Cjdns bytes len p h name = inl (whole_back Cjdns bytes len tt p h (name tt))
 by_parts Internal bytes len p h name = absurd (p.network refl)
 
-pub name_back : (s : Subnet) → IsProper s → IsAddress s.addr → (IsWhole s.addr.net → HasOwnName s.addr) → IsNamedText (subnet_name s) s
-name_back s proper own name = by_parts s.addr.net s.addr.bytes s.len proper own name
+pub name_back : (s : Subnet) → IsProper s → HasName s → IsNamedText (subnet_name s) s
+name_back s proper name = by_parts s.addr.net s.addr.bytes s.len proper name.address name.own

@@ -3,14 +3,12 @@ ghost use Rattle.ban_laws.specs.Known.{HasName, HasTimes};
 ghost use Rattle.ban_list.specs.BanFile.{IsListFile};
 ghost use Rattle.ban_list.specs.Bans.{AreBans};
 ghost use Rattle.ban_list.specs.NewFile.{IsNamedFile, named_tree};
-ghost use Rattle.ban_list.specs.Subnet.{IsProper, IsWhole};
+ghost use Rattle.ban_list.specs.Subnet.{IsProper};
 ghost use Rattle.ban_list.specs.SubnetText.{IsSubnetTextBy, subnet_name};
 ghost use Rattle.ban_list.specs.declared.ban.Ban.{Ban};
 ghost use Rattle.ban_list.specs.declared.ban.BanRule.TheVariants.{Names};
 ghost use Rattle.ban_list.specs.declared.subnet.Subnet.{Subnet};
 ghost use Rattle.json.specs.Json.{document};
-ghost use Rattle.names.specs.Name.{HasOwnName};
-ghost use Rattle.net_addr.specs.Address.{IsAddress};
 
 /// What is written of a list by the rule of Bitcoin Core reads as the value that it was written
 /// for: the old members in their order, with the bans and the elements that are no bans in the list.
@@ -20,16 +18,14 @@ pub fn files_have_values()
         document text ≡ Some (named_tree file.members file.elements file.sorted) }
 {}
 
-/// It is the file of the same bans, sorted, and of no others, if the name of each ban's subnet
-/// parses as the subnet.
-pub fn lists_are_read_back()
-    ensures { (old : Option (List ℕ)) (bans : List Ban) (text : List ℕ) → AreBans bans →
-        All HasName bans → (file : IsNamedFile old bans text) → IsListFile Names text file.sorted }
+/// The name of a subnet parses as the subnet, but that of an address of CJDNS outside of fc00::/8.
+pub fn names_are_read_back()
+    ensures { (s : Subnet) → IsProper s → HasName s → IsSubnetTextBy Names (subnet_name s) s }
 {}
 
-/// The name of a subnet parses as the subnet, but that of an address of CJDNS that is not in
-/// fc00::/8.
-pub fn names_are_read_back()
-    ensures { (s : Subnet) → IsProper s → IsAddress s.addr →
-        (IsWhole s.addr.net → HasOwnName s.addr) → IsSubnetTextBy Names (subnet_name s) s }
+/// So what is written is the file of the same bans, sorted, and of no others.
+pub fn lists_are_read_back()
+    ensures { (old : Option (List ℕ)) (bans : List Ban) (text : List ℕ) → AreBans bans →
+        All HasTimes bans → All (λ ban. HasName ban.subnet) bans →
+        (file : IsNamedFile old bans text) → IsListFile Names text file.sorted }
 {}

@@ -1,6 +1,9 @@
-//! What the definition of the file that is written by the rule of Bitcoin Core gives: it reads as
-//! the value that it was written for. There is no program here, only laws over the definitions of
-//! `ban_list`.
+//! Laws of the file that is written of a list of bans by the rule of Bitcoin Core; no program.
+//!
+//! Proved: it reads as the value that it was written for (`files_have_values`), and as the list of
+//! the same bans, sorted (`lists_are_read_back`), since the name of a subnet parses as the subnet
+//! (`names_are_read_back`). Not so of an address of CJDNS outside of fc00::/8: its name is that of
+//! an IPv6 address.
 #![tactic(auto)]
 
 mod law;

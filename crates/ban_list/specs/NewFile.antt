@@ -145,7 +145,8 @@ named_tree members elements bans =
 -- The members of the old file, with a new list under `banned_nets`: the bans, sorted, each with the
 -- members that the old elements of its subnet have besides, and then the old elements that are no
 -- bans (`BanMapToJson` in net_types.cpp). What is kept is as it was, in its order: a number has its
--- digits, and a name that comes twice still does. The text has no spaces and the shortest escapes.
+-- digits, and a name that comes twice still does. The text has no spaces and the shortest escapes,
+-- and is UTF-8.
 pub record IsNamedFile (old : Option (List ℕ)) (bans : List Ban) (text : List ℕ) : Type 0 where
   pub members : List Member
   pub elements : List Element
