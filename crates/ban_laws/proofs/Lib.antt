@@ -5,3 +5,4 @@ pub mod Found
 pub mod Data
 pub mod Lists
 pub mod Names
+pub mod Own

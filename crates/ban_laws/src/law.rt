@@ -11,7 +11,8 @@ ghost use Rattle.ban_list.specs.declared.subnet.Subnet.{Subnet};
 ghost use Rattle.json.specs.Json.{document};
 
 /// What is written of a list by the rule of Bitcoin Core reads as the value that it was written
-/// for: the old members in their order, with the bans and the elements that are no bans in the list.
+/// for: the old members in their order, with the bans and the elements that are no bans in the
+/// list.
 pub fn files_have_values()
     ensures { (old : Option (List ℕ)) (bans : List Ban) (text : List ℕ) → All HasTimes bans →
         (file : IsNamedFile old bans text) →
@@ -28,4 +29,14 @@ pub fn lists_are_read_back()
     ensures { (old : Option (List ℕ)) (bans : List Ban) (text : List ℕ) → AreBans bans →
         All HasTimes bans → All (λ ban. HasName ban.subnet) bans →
         (file : IsNamedFile old bans text) → IsListFile Names text file.sorted }
+{}
+
+/// Subnets that are parsed by this rule, and bans that are read, are such that these laws hold of
+/// them.
+pub fn read_bans_have_names()
+    ensures parsed { (text : List ℕ) (s : Subnet) → IsSubnetTextBy Names text s → HasName s }
+    ensures names { (bytes : List ℕ) (bans : List Ban) → IsListFile Names bytes bans →
+        All (λ ban. HasName ban.subnet) bans }
+    ensures times { (bytes : List ℕ) (bans : List Ban) → IsListFile Names bytes bans →
+        All HasTimes bans }
 {}
