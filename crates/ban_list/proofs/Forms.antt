@@ -78,7 +78,7 @@ low_elided text segments h =
     let tail = low_groups true [] h.tail_text h.tail (All-nil IsLow) h.tail_groups in
     subst (All IsLow) (sym h.spelled) (All-append IsLow (h.head_text ++ codes "::") h.tail_text (All-append IsLow h.head_text (codes "::") head low_colons) tail)
 
-low_colon_hex : (text segments : List ℕ) → IsColonHex text segments → All IsLow text
+pub low_colon_hex : (text segments : List ℕ) → IsColonHex text segments → All IsLow text
 low_colon_hex text segments (inl h) = low_groups true [] text segments (All-nil IsLow) h.0
 low_colon_hex text segments (inr h) = low_elided text segments h
 

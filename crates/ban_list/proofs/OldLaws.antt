@@ -30,14 +30,14 @@ abbrev or_else : {A : Type 0} → A → Option A → A
 or_else d None = d
 or_else d (Some a) = a
 
-Some_inj : {A : Type 0} (a b : A) → Some a ≡ Some b → a ≡ b
+pub Some_inj : {A : Type 0} (a b : A) → Some a ≡ Some b → a ≡ b
 Some_inj a b e = ap (or_else a) e
 
-then_some : {A B : Type 0} (f : A → Option B) (o : Option A) (b : B) → option_and_then f o ≡ Some b → (a : A) × (o ≡ Some a) × (f a ≡ Some b)
+pub then_some : {A B : Type 0} (f : A → Option B) (o : Option A) (b : B) → option_and_then f o ≡ Some b → (a : A) × (o ≡ Some a) × (f a ≡ Some b)
 then_some f None b e = absurd (cc)
 then_some f (Some a) b e = (a, refl, e)
 
-map_some : {A B : Type 0} (f : A → B) (o : Option A) (b : B) → option_map f o ≡ Some b → (a : A) × (o ≡ Some a) × (f a ≡ b)
+pub map_some : {A B : Type 0} (f : A → B) (o : Option A) (b : B) → option_map f o ≡ Some b → (a : A) × (o ≡ Some a) × (f a ≡ b)
 map_some f None b e = absurd (cc)
 map_some f (Some a) b e = (a, refl, Some_inj (f a) b e)
 
@@ -45,7 +45,7 @@ last_by : (i j : Json) (ts : List Token) → if_last i ts ≡ Some j → ◌≡�
 last_by i j [] e = ap (λ x. let p : Json × List Token = (x, []) in Some p) (Some_inj i j e)
 last_by i j (t ∷ ts) e = absurd (cc)
 
-last : (o : Option (Json × List Token)) (j : Json) → option_and_then (λ p. if_last p.0 p.1) o ≡ Some j → o ≡ Some (j, [])
+pub last : (o : Option (Json × List Token)) (j : Json) → option_and_then (λ p. if_last p.0 p.1) o ≡ Some j → o ≡ Some (j, [])
 last None j e = absurd (cc)
 last (Some (i, ts)) j e = last_by i j ts e
 
@@ -56,7 +56,7 @@ tree_reads text d j is tree =
     let same = Some_inj (i, []) (j, []) (one_reading 127 128 (tokens text) (i, []) (j, []) (last _ i whole) (last _ j tree)) in
     ap of_json (sym (ap (λ p. p.0) same)) ∙ own
 
-abbrev read_or : Option Json → Option Data → Option Data
+abbrev pub read_or : Option Json → Option Data → Option Data
 read_or None old = old
 read_or (Some j) old = of_json j
 
@@ -75,7 +75,7 @@ later None own old now same = same
 later (Some j) own old now same = refl
 
 -- a member of an object is what its last value reads as
-get_read : (name : List ℕ) (ms : json.Members) (old new : Members) → of_members ms old ≡ Some new → get_member name new ≡ read_or (find.get_member name ms) (get_member name old)
+pub get_read : (name : List ℕ) (ms : json.Members) (old new : Members) → of_members ms old ≡ Some new → get_member name new ≡ read_or (find.get_member name ms) (get_member name old)
 get_read name json.no_members old new is = ap (get_member name) (sym (Some_inj old new is))
 get_read name (json.member k j ms) old new is =
     let (d, own, more) = then_some (λ d. of_members ms (put k d old)) (of_json j) new is in
@@ -162,9 +162,9 @@ elements_first [] subnets long = refl
 elements_first (j ∷ js) [] long = absurd (omega (arith, long))
 elements_first (j ∷ js) (s ∷ subnets) long = ap (λ xs. j ∷ xs) (elements_first js subnets (omega (arith, long)))
 
-pub ok_then : {V E : Type 0} (P Q : V → Type 0) → ((v : V) → P v → Q v) → (r : Result V E) → IfOk r P → IfOk r Q
-ok_then P Q f (Ok v) p = f v p
-ok_then P Q f (Err e) p = tt
+pub ok_both : {V E : Type 0} (P Q R : V → Type 0) → ((v : V) → P v → Q v → R v) → (r : Result V E) → IfOk r P → IfOk r Q → IfOk r R
+ok_both P Q R f (Ok v) p q = f v p q
+ok_both P Q R f (Err e) p q = tt
 
 items_all : (js : json.Items) → ItemsHaveNumbers js → All HasNumbers (item_list js)
 items_all json.no_items have = All-nil HasNumbers
@@ -197,6 +197,8 @@ named_over bytes d ds subnets j members js is listed are tree whole found =
       long,
       record {
         text = tree ∙ ap Some whole;
+        value = d;
+        is_read = is;
         list = array ∙ ap (λ xs. Some (json.array (items_of xs))) (sym (elements_first js subnets long));
         are = all;
       },

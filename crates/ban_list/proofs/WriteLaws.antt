@@ -49,7 +49,7 @@ put_apart new (ban ∷ bans) h =
     ∙ ap (λ bs. ban ∷ bs) (put_apart new bans (All-tail (λ b. Apart b new) ban bans h))
 
 -- distinct bans are merged to themselves
-merged_onto : (done bans : List Ban) → AllPairs Apart (done ++ bans) → fold (λ list ban. put ban list) done bans ≡ done ++ bans
+pub merged_onto : (done bans : List Ban) → AllPairs Apart (done ++ bans) → fold (λ list ban. put ban list) done bans ≡ done ++ bans
 merged_onto done [] h = sym (append-nil done)
 merged_onto done (ban ∷ bans) h =
     let same = append_assoc done (ban ∷ []) bans in

@@ -1,7 +1,7 @@
 -- The file that is written for a list by the rule of Bitcoin Core: what the old file has besides
 -- its bans stays in it as it is and in its order, and so does what the element of a ban has
 -- besides.
-use Rattle.std.specs.Prelude.{◌≡◌, ℕ, List, [], ◌∷◌, ◌++◌, map, filter, flat_map, codes, decimal, Bool, ◌||◌, not, ⊤, Option, Some, None, if◌then◌else◌}
+use Rattle.std.specs.Prelude.{◌≡◌, ℕ, List, [], ◌∷◌, ◌++◌, map, filter, flat_map, codes, decimal, IsUtf8, Bool, ◌||◌, not, ⊤, Option, Some, None, if◌then◌else◌}
 use Rattle.std.specs.Cmp.Lexicographic.{slice_cmp}
 use Rattle.std.specs.List.Sorted.{IsPermutation, IsSortedBy}
 use Rattle.std.specs.Ordering.{is_lt, nat_cmp, ordering_then}
@@ -12,7 +12,7 @@ use Rattle.json.specs.Json.{Json, Items, Members, array, document, item, member,
 use Rattle.json.specs.Print.{print}
 use Rattle.json.specs.Tree.{json_tokens}
 use Rattle.serde_json.specs.Data.{Data}
-use Rattle.serde_json.specs.Read.{of_json}
+use Rattle.serde_json.specs.Read.{of_json, read}
 use Rattle.net_addr.specs.Address.{net_number}
 use Rattle.ban_list.specs.BanFile.{IsElement, bans_text}
 use Rattle.ban_list.specs.Bans.{same_subnet}
@@ -59,11 +59,13 @@ unfoldable pub AreOldElements : List Element → Type 0
 AreOldElements [] = ⊤
 AreOldElements (e ∷ es) = IsOldElement e.0 e.1 × AreOldElements es
 
--- the bytes are a text of an object with these members, and these are the elements of the array
--- under `banned_nets`: of several members of that name the last one's
+-- the bytes are a text of an object with these members that is read as a value, and these are the
+-- elements of the array under `banned_nets`: of several members of that name the last one's
 pub record IsOldFile (bytes : List ℕ) (members : List Member) (elements : List Element)
     : Type 0 where
   pub text : document bytes ≡ Some (object (members_of members))
+  pub value : Data
+  pub is_read : read bytes ≡ Some value
   pub list : get (codes "banned_nets") (object (members_of members))
       ≡ Some (array (items_of (map (λ e. e.0) elements)))
   pub are : AreOldElements elements
@@ -145,7 +147,8 @@ named_tree members elements bans =
 -- The members of the old file, with a new list under `banned_nets`: the bans, sorted, each with the
 -- members that the old elements of its subnet have besides, and then the old elements that are no
 -- bans (`BanMapToJson` in net_types.cpp). What is kept is as it was, in its order: a number has its
--- digits, and a name that comes twice still does. The text has no spaces and the shortest escapes.
+-- digits, and a name that comes twice still does. The text has no spaces and the shortest escapes,
+-- and is UTF-8.
 pub record IsNamedFile (old : Option (List ℕ)) (bans : List Ban) (text : List ℕ) : Type 0 where
   pub members : List Member
   pub elements : List Element
@@ -154,6 +157,7 @@ pub record IsNamedFile (old : Option (List ℕ)) (bans : List Ban) (text : List 
   pub same : IsPermutation bans sorted
   pub order : IsSortedBy comes_before sorted
   pub exact : text ≡ print (json_tokens (named_tree members elements sorted))
+  pub utf8 : IsUtf8 text
 
 -- the text that is written for a list, by the rule and the file that it was read from
 abbrev pub IsWritten : BanRule → Option (List ℕ) → List Ban → List ℕ → Type 0

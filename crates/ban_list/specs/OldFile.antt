@@ -1,5 +1,5 @@
 -- What is found in an old file, and the tokens of what is written of it; for private clauses.
-use Rattle.std.specs.Prelude.{◌≡◌, ℕ, ◌+◌, List, [], ◌∷◌, ◌++◌, map, flat_map, codes, decimal, get_or, length, nat_lt, Bool, false, Vec, Option, Some, None, option_and_then, ⊤, if◌then◌else◌}
+use Rattle.std.specs.Prelude.{◌≡◌, ℕ, ◌+◌, List, [], ◌∷◌, ◌++◌, map, flat_map, codes, decimal, get_or, length, nat_lt, IsUtf8, Bool, false, Vec, Option, Some, None, option_and_then, ⊤, if◌then◌else◌}
 use Rattle.std.specs.Borrow.{Bor}
 use Rattle.std.specs.declared.alloc.Global.{Global}
 use Rattle.std.specs.Map.{lookup}
@@ -55,6 +55,7 @@ pub record IsNamedOver (bytes : List ℕ) (bans : List Ban) (text : List ℕ) : 
   pub elements : List Element
   pub is_old : IsOldFile bytes members elements
   pub exact : text ≡ print (json_tokens (named_tree members elements bans))
+  pub utf8 : IsUtf8 text
 
 -- the elements, each with its subnet
 abbrev pub elements_with : List Json → List (Option Subnet) → List Element

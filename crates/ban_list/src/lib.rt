@@ -11,7 +11,7 @@
 //! the list (`write_bans_by`). The element of a ban is written anew, with what the old elements of
 //! its subnet have besides the four members. What stays is as it was: members in their order, each
 //! as often as it was there, numbers with their digits. A time after 2106 is written as the last
-//! one that fits. That such a file reads as the list is not proved.
+//! one that fits. That such a file reads as the list is a law of `ban_laws`.
 //!
 //! Seen in the code only: reading takes one look-up for each element, and `covering` looks at each
 //! ban.

@@ -1,4 +1,4 @@
-ghost use Rattle.std.specs.Prelude.{◌≡◌, ◌≤◌, ◌∷◌, ◌++◌, All, IfOk, OnOk, List, drop, length, map, flat_map, codes};
+ghost use Rattle.std.specs.Prelude.{◌≡◌, ◌≤◌, ◌∷◌, ◌++◌, All, IfOk, IsUtf8, OnOk, List, drop, length, map, flat_map, codes};
 ghost use Rattle.json.specs.Json.{Json};
 ghost use Rattle.json.specs.Print.{print};
 ghost use Rattle.json.specs.Tree.{HasNumbers, json_tokens};
@@ -54,9 +54,10 @@ pub(crate) fn write_named(
     requires members { All (λ m. HasNumbers (value_view m.1)) members.now }
     requires items { All (λ j. HasNumbers (value_view j)) items.now }
     requires subnets { length items.now ≡ length subnets.now }
-    ensures { IfOk result (λ bytes. bytes ≡ print (json_tokens (named_tree
+    ensures text { IfOk result (λ bytes. bytes ≡ print (json_tokens (named_tree
         (map member_view members.now) (elements_with (map value_view items.now) subnets.now)
         bans.now))) }
+    ensures utf8 { IfOk result IsUtf8 }
 {
     let places = places_of(alloc, subnets)?;
     let mut writer = Writer::new(Vec::new(alloc));

@@ -1,9 +1,10 @@
 use Rattle.std.proofs.Common.{length, map, sym, ap, ◌∙◌, subst}
+use Rattle.std.specs.Prelude.{IsUtf8}
 use Rattle.json.specs.Value.{value_view}
 use Rattle.serde_json.specs.View.{view}
 use Rattle.ban_list.specs.OldFile.{AreSubnets, IsNamedOver, elements_with, member_view}
 use Rattle.ban_list.proofs.NamedLaws.{members_numbers, viewed_length}
-use Rattle.ban_list.proofs.OldLaws.{items_numbers, named_over, ok_then}
+use Rattle.ban_list.proofs.OldLaws.{items_numbers, named_over, ok_both}
 use Rattle.ban_list.proofs.write_by_name.write_over.Goals as goal
 
 pub write_named-requires-clause-members : goal.write_named-requires-clause-members
@@ -31,5 +32,6 @@ returns c =
     let are = subst (AreSubnets elements) (sym c.as_slice.ensures.value) c.in_ok-subnets.ensures in
     let over = named_over c.args.bytes.now (view c.in-Ok.value) elements c.as_slice.result.now (value_view c.in-Ok-from_slice.tree) members (map value_view items)
     c.in-Ok.ensures.ok.1 (sym c.in-Some.ensures) are c.in-Ok-from_slice.ensures.ok.1 c.in-Some-members_of.ensures.object (sym c.in-Some-items_of.ensures) in
-    ok_then _ (IsNamedOver c.args.bytes.now c.args.bans.now)
-    (λ text is. record { members = members; elements = elements_with (map value_view items) c.as_slice.result.now; is_old = over.1; exact = is }) c.write_named.result c.write_named.ensures
+    ok_both _ IsUtf8 (IsNamedOver c.args.bytes.now c.args.bans.now)
+    (λ text is utf8. record { members = members; elements = elements_with (map value_view items) c.as_slice.result.now; is_old = over.1; exact = is; utf8 = utf8 })
+    c.write_named.result c.write_named.ensures.text c.write_named.ensures.utf8
