@@ -53,7 +53,7 @@ impl Answers {
             ≡ option_map (λ a. a.entries) (answer_at key now self.now) }
         ensures sound { AreAnswers self.now }
     {
-        match current_in(&self.kept, key, now) {
+        match self.kept.iter().find(|one| one.answers(key, now)) {
             Some(kept) => Some(kept.entries()),
             None => None,
         }
@@ -110,13 +110,6 @@ impl Answers {
     {
         self.kept.clear();
     }
-}
-
-/// Returns the first answer of the key that is current.
-fn current_in<'a>(kept: &'a [Kept], key: u64, now: u32) -> Option<&'a Kept>
-    ensures { option_map (λ k. k.now) result ≡ answer_at key now kept.now }
-{
-    kept.iter().find(|one| one.answers(key, now))
 }
 
 /// Returns the number of answers of other keys.

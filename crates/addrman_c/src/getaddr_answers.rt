@@ -55,13 +55,6 @@ pub extern "C" fn addrman_answers_forget(alloc: Global, handle: &mut AnswersHand
     OK
 }
 
-/// Returns which times the entries of an answer have.
-fn times_of(own_times: bool) -> Times
-    ensures { result ≡ times_of own_times }
-{
-    if own_times { Times::Own } else { Times::Hidden }
-}
-
 /// Writes the message of an answer, and how many bytes it has.
 pub(crate) fn put_answer(
     alloc: Global,
@@ -188,7 +181,7 @@ pub extern "C" fn addrman_answer(
         read_class(requester),
         socket,
         form_of(is_v2),
-        times_of(own_times),
+        if own_times { Times::Own } else { Times::Hidden },
         now,
         words,
         payload,

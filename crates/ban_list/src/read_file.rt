@@ -1,10 +1,10 @@
-ghost use Rattle.std.specs.Prelude.{◌≡◌, ◌⊎◌, List, ◌≤◌, ◌<◌, true, false, codes, map, length, All, IfOk, IfErr, IfSome, IsErrAnd, MatchResult, option_and_then, option_map, Some, min};
+ghost use Rattle.std.specs.Prelude.{◌≡◌, ◌⊎◌, List, ◌≤◌, ◌<◌, true, false, codes, map, length, All, IfOk, IfErr, IfSome, IsErrAnd, MatchResult, option_and_then, option_map, Some};
 ghost use Rattle.serde_json.specs.Data.{Data, depth};
 ghost use Rattle.serde_json.specs.Find.{get, as_array, as_number, as_str, as_u64};
 ghost use Rattle.serde_json.specs.Read.{max_depth};
 ghost use Rattle.serde_json.specs.View.{view, items_view};
 ghost use Rattle.ban_list.specs.Subnet.{IsProper};
-ghost use Rattle.ban_list.specs.BanFile.{AreElements, HasBanFault, HasListFault, IsBanFile, IsJson, IsListFile, PassesOver, IsElement, time_at, number_at, clamped, max_time};
+ghost use Rattle.ban_list.specs.BanFile.{AreElements, HasBanFault, HasListFault, IsBanFile, IsJson, IsListFile, PassesOver, IsElement, time_at, number_at, clamped};
 ghost use Rattle.ban_list.specs.declared.ban.Ban.{Ban};
 ghost use Rattle.ban_list.specs.declared.fault.BanFault.{BanFault};
 ghost use Rattle.ban_list.specs.declared.fault.BanFault.TheVariants as faults;
@@ -190,17 +190,10 @@ fn time_of(value: &Value) -> Option<u32>
     ensures { result ≡ option_and_then clamped (as_number (view value.now)) }
 {
     if let Some(number) = value.as_u64() {
-        return Some(clamp(number));
+        return Some(number.min(4_294_967_295) as u32);
     }
     match value.as_i64() {
         Some(_) => Some(0),
         None => None,
     }
-}
-
-/// Returns the number, or the greatest time if it is greater.
-fn clamp(number: u64) -> u32
-    ensures { result ≡ min number max_time }
-{
-    number.min(4_294_967_295) as u32
 }

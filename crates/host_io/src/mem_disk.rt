@@ -1,5 +1,5 @@
-ghost use Rattle.std.specs.Prelude.{◌≡◌, ◌<◌, [], length, IfOk, OnOk, OnErr};
-ghost use Rattle.host_io.specs.Disk.{AllowsOne, IsImage, MayHave, after_sync_dir, files_on, safe};
+ghost use Rattle.std.specs.Prelude.{◌≡◌, ◌<◌, [], IfOk, OnOk, OnErr};
+ghost use Rattle.host_io.specs.Disk.{IsImage, MayHave, after_sync_dir, files_on, safe};
 ghost use Rattle.host_io.specs.MemFolder.{after_change, disk_of, log_with};
 ghost use Rattle.host_io.specs.PerName.{each, under};
 ghost use Rattle.host_io.specs.declared.call.Change.TheVariants as change;
@@ -95,6 +95,7 @@ impl MemDisk {
 
     /// Returns the file that a crash leaves at a name, or none. From choice 3 on, `rest` picks the
     /// fate, and what is left of it picks those of the other names.
+    #[tactic(auto, using(crate::proofs::Fates::allows_at))]
     fn found(&self, name: Name, choice: u64, rest: &mut u64) -> Result<Option<Bytes>, AllocError>
         ensures allowed { IfOk result (λ found. MayHave (under (disk_of self.now) name) found) }
         ensures as_read { choice ≡ 0 → IfOk result (λ found.
@@ -113,7 +114,7 @@ impl MemDisk {
             _ => take_digit(rest, fates.len()),
         };
         let any = if choice == 2 { EMPTY } else { TORN };
-        found_at(self.alloc, &fates, index, any)
+        fates[index.min(fates.len() - 1)].found(self.alloc, any)
     }
 
     /// Returns `true` if the name was the target of a rename since the folder was synced and since
@@ -255,20 +256,6 @@ fn settle(entries: &mut PerName<DirEntry>)
     entries.prefixes.settle();
     entries.bans.settle();
     entries.bans_temp.settle();
-}
-
-/// Returns the file of the fate at `index`, or of the last fate if there are fewer.
-#[tactic(auto, using(crate::proofs::Fates::allows_at))]
-fn found_at(
-    alloc: Global,
-    fates: &[Fate],
-    index: usize,
-    any: &[u8],
-) -> Result<Option<Bytes>, AllocError>
-    requires { 0 < length fates.now }
-    ensures { IfOk result (λ found. AllowsOne fates.now found) }
-{
-    fates[index.min(fates.len() - 1)].found(alloc, any)
 }
 
 /// Returns the index of the last fate that is a certain file or no file.

@@ -106,7 +106,7 @@ impl<'a, H: BuildHasher> Manager<'a, H> {
             Command::Connected { peer } => Ok(self.connected(peer, steps)),
             Command::Services { peer, services } => Ok(self.services(peer, *services, steps)),
             Command::Find { peer } => Ok(self.find(peer, steps)),
-            Command::Size => Ok(self.size()),
+            Command::Size => Ok(Reply::Size(self.tables.counts())),
             Command::Select {
                 new_only,
                 nets,
@@ -120,7 +120,7 @@ impl<'a, H: BuildHasher> Manager<'a, H> {
             } => self.sample(alloc, *max, *pct, *classes, words, steps),
             Command::Resolve => Ok(self.resolve(steps)),
             Command::Clash { word } => Ok(self.clash(*word, steps)),
-            Command::Dump => self.dump(steps),
+            Command::Dump => Ok(Reply::Dump(self.tables.recs(steps)?)),
             Command::Save | Command::SaveBegin | Command::SaveStep { .. } | Command::SaveEnd =>
                 unreachable!(),
         }
@@ -201,20 +201,6 @@ impl<'a, H: BuildHasher> Manager<'a, H> {
         ensures step { Step self.now (Command.Find peer.now) result self.now }
     {
         Reply::Found(self.tables.find(peer, steps).map(|rec| rec.copy()))
-    }
-
-    /// Counts the records.
-    fn size(&self) -> Reply
-        ensures step { Step self.now Command.Size result self.now }
-    {
-        Reply::Size(self.tables.counts())
-    }
-
-    /// Returns all records by rising number.
-    fn dump<L: Ledger>(&self, steps: &mut Steps<L>) -> Result<Reply, Memory>
-        ensures step { IfOk result (λ answer. Step self.now Command.Dump answer self.now) }
-    {
-        Ok(Reply::Dump(self.tables.recs(steps)?))
     }
 
     /// Selects a peer to connect to by random words, of one of these networks.

@@ -1,4 +1,4 @@
-ghost use Rattle.std.specs.Prelude.{◌≡◌, ◌+◌, ◌*◌, ◌≤◌, length, IfOk, IfErr, OnOk, None, [], ◌<◌, ◌^◌, All, vec_len};
+ghost use Rattle.std.specs.Prelude.{◌≡◌, ◌+◌, ◌*◌, ◌≤◌, length, IfOk, IfErr, OnOk, None, [], ◌<◌, ◌^◌, All};
 ghost use Rattle.placing.specs.Places.{IsPlaces};
 ghost use Rattle.table_machine.specs.Restoring.{duplicate, restored};
 ghost use Rattle.table_machine.specs.Sound.{IsSound};
@@ -152,18 +152,11 @@ fn fill<H: BuildHasher, L: Ledger>(
     ensures order { IfOk result (λ ids. IsOrder index.new) }
     ensures steps { steps.new ≤ steps.old + length order.now }
 {
-    let mut ids = zeros(alloc, recs.len())?;
+    let mut ids = vec![in alloc; 0usize; recs.len()]?;
     index.reserve(order.len())?;
     for number in order {
         let id = index.add(recs[*number].to_rec(), steps)?;
         ids[*number] = id;
     }
     Ok(ids)
-}
-
-/// Returns a list of zeros.
-fn zeros(alloc: Global, count: usize) -> Result<Vec<usize>, Memory>
-    ensures { IfOk result (λ v. vec_len v ≡ count) }
-{
-    Ok(vec![in alloc; 0usize; count]?)
 }

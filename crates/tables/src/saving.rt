@@ -7,7 +7,7 @@ ghost use Rattle.slot_grid.specs.declared.sizes.TheConstants.{NEW_BUCKETS, SLOTS
 use crate::{Memory, Store};
 use peer_rec::{FileRec, Rec};
 use slot_grid::{NEW_BUCKETS, SLOTS};
-use std::alloc::{AllocError, Global};
+use std::alloc::Global;
 use std::hash::BuildHasher;
 use std::sync::ledger::Ledger;
 use steps::Steps;
@@ -24,13 +24,6 @@ fn file_rec(rec: &Rec) -> FileRec
         last_success: rec.last_success,
         attempts: rec.attempts,
     }
-}
-
-/// Returns the ids of numbers with ids.
-pub(crate) fn ids_of(alloc: Global, pairs: &[(u64, usize)]) -> Result<Vec<usize>, AllocError>
-    ensures { IfOk result (λ v. v.items ≡ map (λ p. p.1) pairs.now) }
-{
-    pairs.iter().map(|pair| pair.1).collect(alloc)
 }
 
 /// Returns the larger of two ids.

@@ -1,4 +1,4 @@
-use Rattle.std.proofs.Common.{rules, ◌∙◌, ℕ, ap, length, map, subst, sym}
+use Rattle.std.proofs.Common.{rules, ◌≡◌, ◌∙◌, ℕ, ap, length, map, subst, sym}
 use Rattle.std.specs.Prelude.{IsPermutation}
 use Rattle.std.proofs.lemmas.List.{length-map}
 use Rattle.std.proofs.lemmas.List.Sorted.{IsNonDecreasingBy-from_sort_by_key, length_permutation}
@@ -14,7 +14,7 @@ returns-clause-lead g c =
     let ys = c.sort_unstable_by_key.new.self.items in
     let moved : IsPermutation (map number_id store.index) ys =
     subst (λ xs. IsPermutation xs ys) c.in_ok-pairs.ensures.listed c.sort_unstable_by_key.ensures.permutation in
-    let own = c.in_ok-ids.ensures ∙ ap (map (λ (p : ℕ × ℕ). p.1)) c.as_slice.ensures.value in
+    let own : c.in_ok-ids.ids.items ≡ map (λ (p : ℕ × ℕ). p.1) ys = search rules in
     subst (LeadTo store.index (state_of store).records) (sym own)
     (lead-sorted store.index store.next_number ys c.requires.stored.index c.requires.stored.numbers c.requires.sound.order
     (rising-numbers (state_of store).records c.requires.sound.rising) moved
@@ -26,7 +26,8 @@ returns-clause-count g c =
     let ys = c.sort_unstable_by_key.new.self.items in
     let moved : IsPermutation (map number_id store.index) ys =
     subst (λ xs. IsPermutation xs ys) c.in_ok-pairs.ensures.listed c.sort_unstable_by_key.ensures.permutation in
-    ap length (c.in_ok-ids.ensures ∙ ap (map (λ (p : ℕ × ℕ). p.1)) c.as_slice.ensures.value)
+    let own : c.in_ok-ids.ids.items ≡ map (λ (p : ℕ × ℕ). p.1) ys = search rules in
+    ap length own
     ∙ length-map ys (λ (p : ℕ × ℕ). p.1)
     ∙ length_permutation (map number_id store.index) ys moved
     ∙ length-map store.index number_id
