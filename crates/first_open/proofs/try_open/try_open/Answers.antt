@@ -46,7 +46,7 @@ returns-then-ne-clause-none g c =
     let picked : select a.tables.now false all a.words.now a.now ≡ One c.in-One.peer c.in-One.last_try =
     sym (ap (λ nets. select a.tables.now false nets a.words.now a.now) c.all.ensures) ∙ sym c.in-One.ensures.picked in
     inr (λ peer t.
-        let same : One peer t.last_try ≡ One c.in-One.peer c.in-One.last_try = sym t.picked ∙ picked in
-        let judged : judge a.opener.now (group a.placer.now c.in-One.peer.addr) c.in-One.last_try a.now a.tries ≡ Take = subst (IsJudged a.opener.now a.placer.now a.now a.tries) same t.judged in
-        let refused : judge a.opener.now (group a.placer.now c.in-One.peer.addr) c.in-One.last_try a.now a.tries ≡ Take → ⊥ = search rules in
-        refused judged)
+    let same : One peer t.last_try ≡ One c.in-One.peer c.in-One.last_try = sym t.picked ∙ picked in
+    let judged : judge a.opener.now (group a.placer.now c.in-One.peer.addr) c.in-One.last_try a.now a.tries ≡ Take = subst (IsJudged a.opener.now a.placer.now a.now a.tries) same t.judged in
+    let refused : judge a.opener.now (group a.placer.now c.in-One.peer.addr) c.in-One.last_try a.now a.tries ≡ Take → ⊥ = search rules in
+    refused judged)
