@@ -22,7 +22,7 @@ use addrman_run::{Learned, Status, run_learning, status_line};
 use arguments::{help_text, read_request};
 pub use ended::Ended;
 use hints::NotedFolder;
-use host_io::{Bytes, Name, Source, StdSink, StdSource};
+use host_io::{Bytes, DirFolder, Name, Source, StdSink, StdSource};
 use raw_file::{InputFault, ListingFault, read_input};
 use raw_read::{MAX_TEXT, RawFault};
 use std::alloc::Global;
@@ -164,7 +164,7 @@ fn run_over<I: Read + Drop, O: Write + Drop>(
         Ok(Some(text)) => Some(text.items()),
         _ => None,
     };
-    let mut folder = NotedFolder::make(&placed, tells_saves, text);
+    let mut folder = NotedFolder::make(rt, DirFolder::make(&placed), tells_saves, text);
     let mut out = StdSink::make(output);
     let mut learned = Learned::make(alloc);
     let status = match &listing {

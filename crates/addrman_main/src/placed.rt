@@ -2,7 +2,6 @@ use hints::Paths;
 use host_io::Name;
 use std::alloc::{Allocator, Global};
 use std::cell::Cell;
-use std::fmt::Display;
 use std::fs::{File, Metadata, OpenOptions, Permissions};
 use std::io;
 use std::io::{ErrorKind, PipeReader, PipeWriter};
@@ -68,16 +67,6 @@ impl Alloc for Placed<'_> {
 
     fn alloc(&self) -> Global {
         self.rt.alloc()
-    }
-}
-
-impl Eprint for Placed<'_> {
-    fn eprint<D: Display + Drop>(&self, value: D) -> io::Result<()> {
-        self.rt.eprint(value)
-    }
-
-    fn eprintln<D: Display + Drop>(&self, value: D) -> io::Result<()> {
-        self.rt.eprintln(value)
     }
 }
 

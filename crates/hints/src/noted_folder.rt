@@ -1,11 +1,10 @@
-ghost use Rattle.std.specs.Prelude.{◌≡◌, ◌≢◌, ◌<◌, ◌≤◌, length, IfOk, OnErr, None};
-ghost use Rattle.host_io.specs.Faults.{Rose};
+ghost use Rattle.std.specs.Prelude.{◌≡◌, ◌≤◌, length, IfSome, IsNone};
+ghost use Rattle.std.proofs.Props.{props};
 
 use crate::failures::failure_hint;
 use crate::files::Paths;
-use host_io::{DirFolder, Failed, Folder, Lock, Name};
+use host_io::{DirFolder, Failed, Failure, Folder, Name};
 use std::alloc::{AllocError, Global};
-use std::marker::Model;
 use std::rt::Files;
 
 /// How many saves of a run were done, and how many failed.
@@ -17,78 +16,117 @@ pub struct Saves {
     pub is_unsaved: bool,
 }
 
-/// The current folder, with the saves counted. A save that fails is reported at once, if the run
-/// goes on after it. A listing may be in the place of peers.dat.
+/// A folder that keeps why a call failed.
+pub trait KeepsFailure {
+    /// Returns the call that failed last.
+    fn last_failure(&self) -> Option<Failure>;
+
+    /// Returns `true` if the last `create` failed because another program was saving in the folder.
+    fn is_in_use(&self) -> bool;
+}
+
+impl<'a, R: Files + Alloc> KeepsFailure for DirFolder<'a, R> {
+    fn last_failure(&self) -> Option<Failure> {
+        DirFolder::last_failure(self)
+    }
+
+    fn is_in_use(&self) -> bool {
+        DirFolder::is_in_use(self)
+    }
+}
+
+/// A folder, with the saves counted. A save that fails is reported at once, if the run goes on
+/// after it. A listing may be in the place of peers.dat.
 #[derive(Drop)]
-pub struct NotedFolder<'a, R: Files> {
-    folder: DirFolder<'a, R>,
+pub struct NotedFolder<'a, R, F: Folder> {
+    folder: F,
+    listing: Option<&'a [u8]>,
+    notes: Notes<'a, R>,
+    ghost unknown: { IfSome listing (λ _. IsNone (F.past folder)) } by { Prim.hlevel props },
+}
+
+/// The saves, and whether those that fail are reported.
+#[derive(Drop)]
+struct Notes<'a, R> {
     rt: &'a R,
     tells_saves: bool,
-    listing: Option<&'a [u8]>,
     saves: Saves,
 }
 
-impl<'a, R: Files> Model for NotedFolder<'a, R> {
-    ghost use Rattle.std.specs.Prelude.{ℕ};
-
-    ghost Value = { ℕ };
-
-    ghost view = { λ f. f.folder };
-}
-
-impl<'a, R: Files + AllocGlobal + Eprint> NotedFolder<'a, R> {
-    /// Returns the current folder, as `rt` reaches it. If the run goes on after a save that failed,
-    /// `tells_saves` says so. The listing, if there is one, is read as peers.dat.
-    pub fn make(rt: &'a R, tells_saves: bool, listing: Option<&'a [u8]>) -> NotedFolder<'a, R> {
+impl<'a, R: AllocGlobal + Eprint, F: Folder + KeepsFailure> NotedFolder<'a, R, F> {
+    /// Returns this folder. If the run goes on after a save that failed, `tells_saves` says so. The
+    /// listing, if there is one, is read as peers.dat, in a folder whose files contracts do not
+    /// know.
+    pub fn make(
+        rt: &'a R,
+        folder: F,
+        tells_saves: bool,
+        listing: Option<&'a [u8]>,
+    ) -> NotedFolder<'a, R, F>
+        requires { IfSome listing (λ _. IsNone (F.past folder)) }
+        ensures { result.folder ≡ folder }
+    {
         NotedFolder {
-            folder: DirFolder::make(rt),
-            rt,
-            tells_saves,
+            folder,
             listing,
-            saves: Saves {
-                done: 0,
-                failed: 0,
-                is_unsaved: false,
+            notes: Notes {
+                rt,
+                tells_saves,
+                saves: Saves {
+                    done: 0,
+                    failed: 0,
+                    is_unsaved: false,
+                },
             },
         }
     }
 
     /// Returns how many saves were done, and how many failed.
     pub fn saves(&self) -> Saves {
-        self.saves
+        self.notes.saves
     }
 
     /// Returns the text for the last call that failed, or an empty one. A file of another path is
     /// called by that.
     pub fn failure_text(&self, paths: &Paths<'_>) -> Result<String, AllocError> {
-        let is_in_use = self.folder.is_in_use();
-        match self.folder.last_failure() {
-            Some(failure) => failure_hint(self.rt.alloc(), &failure, is_in_use, paths),
-            None => Ok(String::new(self.rt.alloc())),
-        }
+        failure_text(self.notes.rt.alloc(), &self.folder, paths)
     }
 
     /// Returns what is read in the place of a file of the folder, if something is.
-    fn listing_as(&self, name: Name) -> Option<&'a [u8]> {
+    fn listing_as(&self, name: Name) -> Option<&'a [u8]>
+        ensures { IfSome result (λ _. IsNone (F.past self.now.folder)) }
+    {
         if name == Name::Peers {
             self.listing
         } else {
             None
         }
     }
+}
 
+impl<'a, R: AllocGlobal + Eprint> Notes<'a, R> {
     /// Counts a save that failed, and says so, if the run goes on.
-    fn note(&mut self, outcome: &Result<(), Failed>)
-        ensures same { self.new ≡ self.old }
-    {
+    fn note<F: KeepsFailure>(&mut self, outcome: &Result<(), Failed>, folder: &F) {
         if outcome.is_ok() || !self.tells_saves {
             return;
         }
         self.saves.failed = self.saves.failed.saturating_add(1);
         self.saves.is_unsaved = true;
-        if let Ok(text) = self.failure_text(&Paths::none()) {
+        if let Ok(text) = failure_text(self.rt.alloc(), folder, &Paths::none()) {
             let _ = eprintln!(self.rt; "addrman: not saved: {}", text.as_str());
         }
+    }
+}
+
+/// Returns the text for the last call of a folder that failed, or an empty one.
+fn failure_text<F: KeepsFailure>(
+    alloc: Global,
+    folder: &F,
+    paths: &Paths<'_>,
+) -> Result<String, AllocError> {
+    match folder.last_failure() {
+        Some(failure) => failure_hint(alloc, &failure, folder.is_in_use(), paths),
+        None => Ok(String::new(alloc)),
     }
 }
 
@@ -103,13 +141,10 @@ fn copy_from(bytes: &[u8], at: u64, buf: &mut [u8]) -> usize
     count
 }
 
-impl<'a, R: Files + AllocGlobal + Eprint> Folder for NotedFolder<'a, R>
-where
-    R::File: Lock,
-{
-    ghost past = { λ _. None };
+impl<'a, R: AllocGlobal + Eprint, F: Folder + KeepsFailure> Folder for NotedFolder<'a, R, F> {
+    ghost past = { λ f. F.past f.folder };
 
-    ghost faults = { λ f. f };
+    ghost faults = { λ f. F.faults f.folder };
 
     fn size(&mut self, name: Name) -> Result<Option<u64>, Failed> {
         match self.listing_as(name) {
@@ -118,12 +153,7 @@ where
         }
     }
 
-    fn read(&mut self, name: Name, at: u64, buf: &mut [u8]) -> Result<usize, Failed>
-        requires { 0 < length buf.old }
-        ensures within { IfOk result (λ n. n ≤ length buf.old) }
-        ensures cause { OnErr result (Rose self.old self.new) }
-        ensures never_falls { self.old ≤ self.new }
-    {
+    fn read(&mut self, name: Name, at: u64, buf: &mut [u8]) -> Result<usize, Failed> {
         match self.listing_as(name) {
             Some(listing) => Ok(copy_from(listing, at, buf)),
             None => self.folder.read(name, at, buf),
@@ -132,39 +162,35 @@ where
 
     fn create(&mut self, name: Name) -> Result<(), Failed> {
         let created = self.folder.create(name);
-        self.note(&created);
+        self.notes.note(&created, &self.folder);
         created
     }
 
     fn append(&mut self, name: Name, bytes: &[u8]) -> Result<(), Failed> {
         let appended = self.folder.append(name, bytes);
-        self.note(&appended);
+        self.notes.note(&appended, &self.folder);
         appended
     }
 
     fn sync(&mut self, name: Name) -> Result<(), Failed> {
         let synced = self.folder.sync(name);
-        self.note(&synced);
+        self.notes.note(&synced, &self.folder);
         synced
     }
 
-    fn rename(&mut self, from: Name, to: Name) -> Result<(), Failed>
-        requires { from ≢ to }
-        ensures cause { OnErr result (Rose self.old self.new) }
-        ensures never_falls { self.old ≤ self.new }
-    {
+    fn rename(&mut self, from: Name, to: Name) -> Result<(), Failed> {
         let renamed = self.folder.rename(from, to);
-        self.note(&renamed);
+        self.notes.note(&renamed, &self.folder);
         renamed
     }
 
     /// A save ends with the sync of the folder.
     fn sync_dir(&mut self) -> Result<(), Failed> {
         let synced = self.folder.sync_dir();
-        self.note(&synced);
+        self.notes.note(&synced, &self.folder);
         if synced.is_ok() {
-            self.saves.done = self.saves.done.saturating_add(1);
-            self.saves.is_unsaved = false;
+            self.notes.saves.done = self.notes.saves.done.saturating_add(1);
+            self.notes.saves.is_unsaved = false;
         }
         synced
     }
