@@ -316,15 +316,15 @@ enum {
     ADDRMAN_SYNC_FOLDER /* call fsync on the folder */
 };
 
-/* Begins a save of the tables as they are, in pieces of at most `most` bytes, which is at least 1.
+/* Begins a save of the tables as they are, in pieces of at most `max` bytes, which is at least 1.
  * What the save had is dropped first, and after any result other than ADDRMAN_OK it is closed.
  * Proved: BeginCall. If the requests are carried out in their order, each after the one before has
  * succeeded, then a crash at any moment leaves peers.dat as it was or whole with these tables, and
  * after the last request always with these (`IsSafeSave`): of a disk that keeps the rules of
  * `Disk`, if nobody else changes the two files meanwhile.
- * Codes: CLOSED, ARGUMENT (there is no such chain, or `most` is 0), MEMORY. */
+ * Codes: CLOSED, ARGUMENT (there is no such chain, or `max` is 0), MEMORY. */
 ADDRMAN_CALL addrman_result addrman_save_begin(addrman_save *save, addrman *am,
-    addrman_chain chain, uint32_t most);
+    addrman_chain chain, uint32_t max);
 
 /* Writes what to do next, the bytes to append, and how many they are: 0 of another request. It says
  * the same until addrman_save_done.
@@ -364,17 +364,17 @@ ADDRMAN_CALL_OF(1, 5, 9, 10) addrman_result addrman_take_message(addrman *am, bo
     const uint64_t *words, size_t word_count, uint32_t now, addrman_added *added,
     addrman_fault *fault);
 
-/* The same with at most `most` entries of the message, the first ones: as many as
+/* The same with at most `max` entries of the message, the first ones: as many as
  * addrman_limiter_admit lets through of addrman_message_count. Then added->total, and how many
  * words are needed, is the number of these. Proved: FirstCall (`IsFirstAdded`, `IsFirstFault`).
  * Codes: as of addrman_take_message. */
 ADDRMAN_CALL_OF(1, 5, 10, 11) addrman_result addrman_take_first(addrman *am, bool is_v2,
-    const uint8_t *payload, size_t payload_length, const addrman_addr *source, uint32_t most,
+    const uint8_t *payload, size_t payload_length, const addrman_addr *source, uint32_t max,
     const uint64_t *words, size_t word_count, uint32_t now, addrman_added *added,
     addrman_fault *fault);
 
 /* The same with the entries that a node has a use for, as Bitcoin Core does. The entries are
- * shuffled, and at most `most` of them are let through, the first ones. Of these some are skipped:
+ * shuffled, and at most `max` of them are let through, the first ones. Of these some are skipped:
  * those that have none of the bits of `services` (0x401 in Bitcoin Core, which is NODE_NETWORK and
  * NODE_NETWORK_LIMITED), and those whose network is not in the set `nets` of the networks that the
  * node reaches. An address that is not routable is of ADDRMAN_UNROUTABLE there. The first random
@@ -384,7 +384,7 @@ ADDRMAN_CALL_OF(1, 5, 10, 11) addrman_result addrman_take_first(addrman *am, boo
  * Proved: ChosenCall (`chosen`, `IsChosenAdded`, `IsChosenFault`).
  * Codes: as of addrman_take_message. */
 ADDRMAN_CALL_OF(1, 5, 12, 13) addrman_result addrman_take_chosen(addrman *am, bool is_v2,
-    const uint8_t *payload, size_t payload_length, const addrman_addr *source, uint32_t most,
+    const uint8_t *payload, size_t payload_length, const addrman_addr *source, uint32_t max,
     uint64_t services, uint32_t nets, const uint64_t *words, size_t word_count, uint32_t now,
     addrman_added *added, addrman_fault *fault);
 
@@ -745,7 +745,7 @@ ADDRMAN_CALL addrman_result addrman_bans_covering(addrman_bans *bans, const addr
  * Codes: as of addrman_take_message. */
 ADDRMAN_CALL_OF(1, 2, 6, 13, 14) addrman_result addrman_take_unbanned(addrman *am,
     addrman_bans *bans, bool is_v2, const uint8_t *payload, size_t payload_length,
-    const addrman_addr *source, uint32_t most, uint64_t services, uint32_t nets,
+    const addrman_addr *source, uint32_t max, uint64_t services, uint32_t nets,
     const uint64_t *words, size_t word_count, uint32_t now, addrman_added *added,
     addrman_fault *fault);
 

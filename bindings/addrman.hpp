@@ -256,12 +256,12 @@ public:
 
     // Takes at most so many entries of a message, the first ones.
     addrman_added take_first(bool is_v2, view<std::uint8_t> payload, const addrman_addr &source,
-        std::uint32_t most, view<std::uint64_t> w, std::uint32_t now)
+        std::uint32_t max, view<std::uint64_t> w, std::uint32_t now)
     {
         addrman_added added{};
         addrman_fault fault{};
         auto code = addrman_take_first(am_.get(), is_v2, payload.data(), payload.size(), &source,
-            most, w.data(), w.size(), now, &added, &fault);
+            max, w.data(), w.size(), now, &added, &fault);
         detail::check(code, fault, added.total);
         return added;
     }
@@ -269,20 +269,20 @@ public:
     // Takes those of at most so many entries after a shuffle that have one of the services, and
     // whose network is in a set.
     addrman_added take_chosen(bool is_v2, view<std::uint8_t> payload, const addrman_addr &source,
-        std::uint32_t most, std::uint64_t services, std::uint32_t nets, view<std::uint64_t> w,
+        std::uint32_t max, std::uint64_t services, std::uint32_t nets, view<std::uint64_t> w,
         std::uint32_t now)
     {
         addrman_added added{};
         addrman_fault fault{};
         auto code = addrman_take_chosen(am_.get(), is_v2, payload.data(), payload.size(), &source,
-            most, services, nets, w.data(), w.size(), now, &added, &fault);
+            max, services, nets, w.data(), w.size(), now, &added, &fault);
         detail::check(code, fault, added.total);
         return added;
     }
 
     // Takes those of them whose addresses are not banned.
     addrman_added take_unbanned(bans &list, bool is_v2, view<std::uint8_t> payload,
-        const addrman_addr &source, std::uint32_t most, std::uint64_t services, std::uint32_t nets,
+        const addrman_addr &source, std::uint32_t max, std::uint64_t services, std::uint32_t nets,
         view<std::uint64_t> w, std::uint32_t now);
 
     bool add(const addrman_peer &peer, const addrman_addr &source, std::uint32_t time,
@@ -552,13 +552,13 @@ public:
 };
 
 inline addrman_added tables::take_unbanned(bans &list, bool is_v2, view<std::uint8_t> payload,
-    const addrman_addr &source, std::uint32_t most, std::uint64_t services, std::uint32_t nets,
+    const addrman_addr &source, std::uint32_t max, std::uint64_t services, std::uint32_t nets,
     view<std::uint64_t> w, std::uint32_t now)
 {
     addrman_added added{};
     addrman_fault fault{};
     auto code = addrman_take_unbanned(am_.get(), list.bans_.get(), is_v2, payload.data(),
-        payload.size(), &source, most, services, nets, w.data(), w.size(), now, &added, &fault);
+        payload.size(), &source, max, services, nets, w.data(), w.size(), now, &added, &fault);
     detail::check(code, fault, added.total);
     return added;
 }
@@ -637,7 +637,7 @@ public:
 // A save of tables, for callers that carry it out themselves.
 class save {
     detail::owner<addrman_save, addrman_save_close> save_;
-    std::size_t most_;
+    std::size_t max_;
 
 public:
     struct request {
@@ -645,17 +645,17 @@ public:
         bytes piece; // to append
     };
 
-    save(tables &t, addrman_chain chain, std::uint32_t most) : most_(most)
+    save(tables &t, addrman_chain chain, std::uint32_t max) : max_(max)
     {
-        detail::check(addrman_save_begin(save_.get(), t.am_.get(), chain, most));
+        detail::check(addrman_save_begin(save_.get(), t.am_.get(), chain, max));
     }
 
     // What to do next, or nothing if the file is saved.
     std::optional<request> next()
     {
-        request out{0, bytes(most_)};
+        request out{0, bytes(max_)};
         std::size_t length = 0;
-        auto code = addrman_save_next(save_.get(), &out.what, out.piece.data(), most_, &length);
+        auto code = addrman_save_next(save_.get(), &out.what, out.piece.data(), max_, &length);
         if (code == ADDRMAN_NONE) return {};
         detail::check(code);
         out.piece.resize(length);

@@ -499,28 +499,28 @@ class AddrMan(_Object):
         _check(code, fault, added.total)
         return added.accepted, added.total
 
-    def take_first(self, is_v2: bool, payload: BytesLike, source: str, most: int, words: Sequence[int],
+    def take_first(self, is_v2: bool, payload: BytesLike, source: str, max: int, words: Sequence[int],
                    now: int) -> tuple[int, int]:
         """Takes at most so many entries of a message, the first ones. Returns how many got a slot, and how many there are
         of them."""
         added, fault, raw = _Added(), _Fault(), _raw("payload", payload)
-        code = self._call("take_first", _flag("is_v2", is_v2), raw, len(raw), c.byref(_addr(source)), _number("most", most),
+        code = self._call("take_first", _flag("is_v2", is_v2), raw, len(raw), c.byref(_addr(source)), _number("max", max),
                           *_words(words), _number("now", now), c.byref(added), c.byref(fault))
         _check(code, fault, added.total)
         return added.accepted, added.total
 
-    def take_chosen(self, is_v2: bool, payload: BytesLike, source: str, most: int, services: int, nets: int,
+    def take_chosen(self, is_v2: bool, payload: BytesLike, source: str, max: int, services: int, nets: int,
                     words: Sequence[int], now: int) -> tuple[int, int]:
         """Takes those of at most so many entries after a shuffle that have one of the services, and whose network is in a
         set. Returns how many got a slot, and how many were let through."""
         added, fault, raw = _Added(), _Fault(), _raw("payload", payload)
-        code = self._call("take_chosen", _flag("is_v2", is_v2), raw, len(raw), c.byref(_addr(source)), _number("most", most),
+        code = self._call("take_chosen", _flag("is_v2", is_v2), raw, len(raw), c.byref(_addr(source)), _number("max", max),
                           _number("services", services, 64), _number("nets", nets), *_words(words), _number("now", now),
                           c.byref(added), c.byref(fault))
         _check(code, fault, added.total)
         return added.accepted, added.total
 
-    def take_unbanned(self, bans: Bans, is_v2: bool, payload: BytesLike, source: str, most: int, services: int, nets: int,
+    def take_unbanned(self, bans: Bans, is_v2: bool, payload: BytesLike, source: str, max: int, services: int, nets: int,
                       words: Sequence[int], now: int) -> tuple[int, int]:
         """Does the same, and skips those whose addresses are banned, too."""
         if not isinstance(bans, Bans):
@@ -528,7 +528,7 @@ class AddrMan(_Object):
         added, fault, raw = _Added(), _Fault(), _raw("payload", payload)
         with self._lock, bans._lock:
             code = self._call("take_unbanned", c.byref(bans._h), _flag("is_v2", is_v2), raw, len(raw), c.byref(_addr(source)),
-                              _number("most", most), _number("services", services, 64), _number("nets", nets), *_words(words),
+                              _number("max", max), _number("services", services, 64), _number("nets", nets), *_words(words),
                               _number("now", now), c.byref(added), c.byref(fault))
         _check(code, fault, added.total)
         return added.accepted, added.total
@@ -787,12 +787,12 @@ class Save(_Object):
     crash leaves the new file, and until then the old one or the new one."""
     _prefix = "save_"
 
-    def __init__(self, tables: AddrMan, chain: int, most: int) -> None:
+    def __init__(self, tables: AddrMan, chain: int, max: int) -> None:
         super().__init__()
         if not isinstance(tables, AddrMan):
             raise TypeError(f"tables is an AddrMan, not {type(tables).__name__}")
         with tables._lock:
-            _check(self._call("save_begin", c.byref(tables._h), _number("chain", chain), _number("most", most)))
+            _check(self._call("save_begin", c.byref(tables._h), _number("chain", chain), _number("max", max)))
 
     def next(self) -> Optional[tuple[str, bytes]]:
         """What to do next, one of REQUESTS, and the bytes to append. None: the file is saved."""

@@ -207,13 +207,13 @@ fn first_on(
     form: Form,
     payload: &[u8],
     source: Option<NetAddr>,
-    most: u32,
+    max: u32,
     words: &[u64],
     now: u32,
     added: &mut AddrmanAdded,
     fault: &mut AddrmanFault,
 ) -> u32
-    ensures call { FirstCall form payload.now source most words.now now tables.old result added.new
+    ensures call { FirstCall form payload.now source max words.now now tables.old result added.new
         fault.new tables.new }
     ensures added { result ≢ OK → result ≢ SHORT_WORDS → added.new ≡ added.old }
     ensures fault { result ≢ REFUSED → fault.new ≡ fault.old }
@@ -224,8 +224,8 @@ fn first_on(
     if tables.next_number() >= MOST_RECORDS {
         return FULL;
     }
-    let most = most as usize;
-    let answer = node_calls::take_first(alloc, tables, form, payload, &source, most, words, now);
+    let max = max as usize;
+    let answer = node_calls::take_first(alloc, tables, form, payload, &source, max, words, now);
     tell(answer, added, fault)
 }
 
@@ -238,14 +238,14 @@ pub extern "C" fn addrman_take_first(
     is_v2: bool,
     payload: &[u8],
     source: &AddrmanAddr,
-    most: u32,
+    max: u32,
     words: &[u64],
     now: u32,
     added: &mut AddrmanAdded,
     fault: &mut AddrmanFault,
 ) -> u32
     ensures call { OnTables handle.old.loose.kept result handle.new.loose.kept
-        (λ old new. FirstCall (form_of is_v2) payload.now (address_in source.now) most words.now now
+        (λ old new. FirstCall (form_of is_v2) payload.now (address_in source.now) max words.now now
         old result added.new fault.new new) }
     ensures added { result ≢ OK → result ≢ SHORT_WORDS → added.new ≡ added.old }
     ensures fault { result ≢ REFUSED → fault.new ≡ fault.old }
@@ -259,7 +259,7 @@ pub extern "C" fn addrman_take_first(
         form_of(is_v2),
         payload,
         read_addr(source),
-        most,
+        max,
         words,
         now,
         added,

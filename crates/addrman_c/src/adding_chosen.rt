@@ -23,7 +23,7 @@ fn chosen_on(
     form: Form,
     payload: &[u8],
     source: Option<NetAddr>,
-    most: u32,
+    max: u32,
     services: u64,
     nets: NetSet,
     words: &[u64],
@@ -31,7 +31,7 @@ fn chosen_on(
     added: &mut AddrmanAdded,
     fault: &mut AddrmanFault,
 ) -> u32
-    ensures call { ChosenCall form payload.now source most services nets bans.now words.now now
+    ensures call { ChosenCall form payload.now source max services nets bans.now words.now now
         tables.old result added.new fault.new tables.new }
     ensures added { result ≢ OK → result ≢ SHORT_WORDS → added.new ≡ added.old }
     ensures fault { result ≢ REFUSED → fault.new ≡ fault.old }
@@ -42,9 +42,9 @@ fn chosen_on(
     if tables.next_number() >= MOST_RECORDS {
         return FULL;
     }
-    let most = most as usize;
+    let max = max as usize;
     let answer = node_calls::take_unbanned(
-        alloc, tables, bans, form, payload, &source, most, services, nets, words, now,
+        alloc, tables, bans, form, payload, &source, max, services, nets, words, now,
     );
     tell(answer, added, fault)
 }
@@ -58,7 +58,7 @@ pub extern "C" fn addrman_take_chosen(
     is_v2: bool,
     payload: &[u8],
     source: &AddrmanAddr,
-    most: u32,
+    max: u32,
     services: u64,
     nets: u32,
     words: &[u64],
@@ -67,7 +67,7 @@ pub extern "C" fn addrman_take_chosen(
     fault: &mut AddrmanFault,
 ) -> u32
     ensures call { OnTables handle.old.loose.kept result handle.new.loose.kept (λ old new.
-        ChosenCall (form_of is_v2) payload.now (address_in source.now) most services
+        ChosenCall (form_of is_v2) payload.now (address_in source.now) max services
         (nets_of (nets % 128)) [] words.now now old result added.new fault.new new) }
     ensures added { result ≢ OK → result ≢ SHORT_WORDS → added.new ≡ added.old }
     ensures fault { result ≢ REFUSED → fault.new ≡ fault.old }
@@ -83,7 +83,7 @@ pub extern "C" fn addrman_take_chosen(
         form_of(is_v2),
         payload,
         read_addr(source),
-        most,
+        max,
         services,
         read_nets(nets),
         words,
@@ -104,7 +104,7 @@ pub extern "C" fn addrman_take_unbanned(
     is_v2: bool,
     payload: &[u8],
     source: &AddrmanAddr,
-    most: u32,
+    max: u32,
     services: u64,
     nets: u32,
     words: &[u64],
@@ -114,7 +114,7 @@ pub extern "C" fn addrman_take_unbanned(
 ) -> u32
     ensures call { OnTwo handle.old.loose.kept bans.old.loose.kept result handle.new.loose.kept
         bans.new.loose.kept (λ old list new. ChosenCall (form_of is_v2) payload.now
-        (address_in source.now) most services (nets_of (nets % 128)) list words.now now old result
+        (address_in source.now) max services (nets_of (nets % 128)) list words.now now old result
         added.new fault.new new) }
     ensures added { result ≢ OK → result ≢ SHORT_WORDS → added.new ≡ added.old }
     ensures fault { result ≢ REFUSED → fault.new ≡ fault.old }
@@ -133,7 +133,7 @@ pub extern "C" fn addrman_take_unbanned(
         form_of(is_v2),
         payload,
         read_addr(source),
-        most,
+        max,
         services,
         read_nets(nets),
         words,

@@ -16,12 +16,12 @@ use std::alloc::Global;
 use tables::Tables;
 
 /// Puts a save of a file with these bytes into a box.
-fn boxed(alloc: Global, bytes: Bytes, most: u32) -> Option<Box<KeptSave>>
-    requires { 0 < most }
-    ensures { IfSome result (λ kept. IsBegun most bytes kept.value.requests) }
+fn boxed(alloc: Global, bytes: Bytes, max: u32) -> Option<Box<KeptSave>>
+    requires { 0 < max }
+    ensures { IfSome result (λ kept. IsBegun max bytes kept.value.requests) }
 {
     let kept = KeptSave {
-        requests: SaveRequests::begin(bytes, most),
+        requests: SaveRequests::begin(bytes, max),
     };
     match Box::new(alloc, kept) {
         Ok(kept) => Some(kept),
@@ -30,18 +30,13 @@ fn boxed(alloc: Global, bytes: Bytes, most: u32) -> Option<Box<KeptSave>>
 }
 
 /// Begins a save of tables.
-fn begun(
-    alloc: Global,
-    tables: &Tables<'_, Keyed>,
-    chain: Chain,
-    most: u32,
-) -> Option<Box<KeptSave>>
-    requires { 0 < most }
+fn begun(alloc: Global, tables: &Tables<'_, Keyed>, chain: Chain, max: u32) -> Option<Box<KeptSave>>
+    requires { 0 < max }
     ensures { IfSome result (λ kept.
-        IsBegun most (file_text chain (snapshot_of tables.now)) kept.value.requests) }
+        IsBegun max (file_text chain (snapshot_of tables.now)) kept.value.requests) }
 {
     let bytes = file_of(alloc, tables, chain)?;
-    boxed(alloc, bytes, most)
+    boxed(alloc, bytes, max)
 }
 
 /// Begins a save of tables, and keeps it in a handle that is closed.
@@ -49,19 +44,19 @@ fn begin_on(
     alloc: Global,
     tables: &Tables<'_, Keyed>,
     chain: Option<Chain>,
-    most: u32,
+    max: u32,
     save: &mut SaveHandle,
 ) -> u32
     requires { save.old.loose.kept ≡ None }
-    ensures { BeginCall chain most tables.now result save.new.loose.kept }
+    ensures { BeginCall chain max tables.now result save.new.loose.kept }
 {
     let Some(chain) = chain else {
         return ARGUMENT;
     };
-    if most == 0 {
+    if max == 0 {
         return ARGUMENT;
     }
-    let Some(kept) = begun(alloc, tables, chain, most) else {
+    let Some(kept) = begun(alloc, tables, chain, max) else {
         return MEMORY;
     };
     save.put(kept);
@@ -76,17 +71,17 @@ pub extern "C" fn addrman_save_begin(
     save: &mut SaveHandle,
     handle: &mut Handle,
     chain: u32,
-    most: u32,
+    max: u32,
 ) -> u32
     ensures tables { OnTables handle.old.loose.kept result handle.new.loose.kept (λ old new.
-        BeginCall (chain_of chain) most old result save.new.loose.kept × (new ≡ old)) }
+        BeginCall (chain_of chain) max old result save.new.loose.kept × (new ≡ old)) }
     ensures closed { handle.old.loose.kept ≡ None → save.new.loose.kept ≡ None }
 {
     let _old = save.take(alloc);
     let Some(kept) = handle.take(alloc) else {
         return CLOSED;
     };
-    let code = begin_on(alloc, &kept.tables, chain_of(chain), most, save);
+    let code = begin_on(alloc, &kept.tables, chain_of(chain), max, save);
     handle.put(kept);
     code
 }

@@ -9,21 +9,21 @@ use std::alloc::Global;
 
 /// Reads a number in decimal digits, or returns `None` if the text is no number or the number is
 /// above `most`. A sign or a leading zero is refused.
-pub fn read_decimal(text: &[u8], most: u64) -> Option<u64>
-    ensures found { IfSome result (λ n. (n ≤ most) × (text.now ≡ decimal n)) }
-    ensures only { (n : ℕ) → n ≤ most → text.now ≡ decimal n → result ≡ Some n }
+pub fn read_decimal(text: &[u8], max: u64) -> Option<u64>
+    ensures found { IfSome result (λ n. (n ≤ max) × (text.now ≡ decimal n)) }
+    ensures only { (n : ℕ) → n ≤ max → text.now ≡ decimal n → result ≡ Some n }
 {
-    parse_number(text, most)
+    parse_number(text, max)
 }
 
 /// Reads a number from `least` to `most`.
-pub fn read_number(text: &[u8], least: u64, most: u64) -> Result<u64, LineFault>
-    ensures found { IfOk result (λ n. Means (Number least most) text.now (TheNumber n)) }
-    ensures within { IfOk result (λ n. n ≤ most) }
-    ensures fault { (f : LineFault) → result ≡ Err f → IsFieldFault (Number least most) text.now f }
+pub fn read_number(text: &[u8], min: u64, max: u64) -> Result<u64, LineFault>
+    ensures found { IfOk result (λ n. Means (Number min max) text.now (TheNumber n)) }
+    ensures within { IfOk result (λ n. n ≤ max) }
+    ensures fault { (f : LineFault) → result ≡ Err f → IsFieldFault (Number min max) text.now f }
 {
-    let number = parse_number(text, most).ok_or(LineFault::Number)?;
-    if number < least {
+    let number = parse_number(text, max).ok_or(LineFault::Number)?;
+    if number < min {
         return Err(LineFault::Number);
     }
     Ok(number)

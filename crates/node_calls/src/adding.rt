@@ -126,20 +126,20 @@ pub fn take_first<H: BuildHasher>(
     form: Form,
     payload: &[u8],
     source: &NetAddr,
-    most: usize,
+    max: usize,
     words: &[u64],
     now: u32,
 ) -> Result<Added, MessageFault>
     requires room { tables.old.next_number < 2 ^ 62 }
-    ensures added { IfOk result (λ added. IsFirstAdded form payload.now most tables.old now
+    ensures added { IfOk result (λ added. IsFirstAdded form payload.now max tables.old now
         source.now words.now added tables.new) }
-    ensures cause { IfErr result (λ fault. IsFirstFault form payload.now most tables.old now
+    ensures cause { IfErr result (λ fault. IsFirstFault form payload.now max tables.old now
         source.now words.now fault tables.new) }
 {
     match read_message(alloc, form, payload) {
         Ok(entries) => {
             let entries = entries.items();
-            let first = &entries[..most.min(entries.len())];
+            let first = &entries[..max.min(entries.len())];
             take_all(tables, first, source, words, now)
         }
         Err(MsgFault::Memory) => Err(MessageFault::Memory),

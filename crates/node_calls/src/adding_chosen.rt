@@ -23,21 +23,21 @@ pub fn take_chosen<H: BuildHasher>(
     form: Form,
     payload: &[u8],
     source: &NetAddr,
-    most: usize,
+    max: usize,
     services: u64,
     nets: NetSet,
     words: &[u64],
     now: u32,
 ) -> Result<Added, MessageFault>
     requires room { tables.old.next_number < 2 ^ 62 }
-    ensures added { IfOk result (λ added. IsChosenAdded form payload.now most services nets []
+    ensures added { IfOk result (λ added. IsChosenAdded form payload.now max services nets []
         tables.old now source.now words.now added tables.new) }
-    ensures cause { IfErr result (λ fault. IsChosenFault form payload.now most services nets []
+    ensures cause { IfErr result (λ fault. IsChosenFault form payload.now max services nets []
         tables.old now source.now words.now fault tables.new) }
 {
     let none = Bans::make(alloc);
     take_unbanned(
-        alloc, tables, &none, form, payload, source, most, services, nets, words, now,
+        alloc, tables, &none, form, payload, source, max, services, nets, words, now,
     )
 }
 
@@ -50,23 +50,23 @@ pub fn take_unbanned<H: BuildHasher>(
     form: Form,
     payload: &[u8],
     source: &NetAddr,
-    most: usize,
+    max: usize,
     services: u64,
     nets: NetSet,
     words: &[u64],
     now: u32,
 ) -> Result<Added, MessageFault>
     requires room { tables.old.next_number < 2 ^ 62 }
-    ensures added { IfOk result (λ added. IsChosenAdded form payload.now most services nets bans.now
+    ensures added { IfOk result (λ added. IsChosenAdded form payload.now max services nets bans.now
         tables.old now source.now words.now added tables.new) }
-    ensures cause { IfErr result (λ fault. IsChosenFault form payload.now most services nets
+    ensures cause { IfErr result (λ fault. IsChosenFault form payload.now max services nets
         bans.now tables.old now source.now words.now fault tables.new) }
 {
     match read_message(alloc, form, payload) {
         Ok(entries) => {
             let entries = entries.items();
             take_some(
-                alloc, tables, bans, entries, source, most, services, nets, words, now,
+                alloc, tables, bans, entries, source, max, services, nets, words, now,
             )
         }
         Err(MsgFault::Memory) => Err(MessageFault::Memory),
@@ -81,7 +81,7 @@ fn take_some<H: BuildHasher>(
     bans: &Bans,
     entries: &[Option<Entry>],
     source: &NetAddr,
-    most: usize,
+    max: usize,
     services: u64,
     nets: NetSet,
     words: &[u64],
@@ -89,19 +89,19 @@ fn take_some<H: BuildHasher>(
 ) -> Result<Added, MessageFault>
     requires more { tables.old.next_number < 2 ^ 62 }
     requires few { length entries.now ≤ MAX_ENTRIES }
-    ensures added { IfOk result (λ added. AreChosen most services nets bans.now entries.now
+    ensures added { IfOk result (λ added. AreChosen max services nets bans.now entries.now
         tables.old now source.now words.now added tables.new) }
-    ensures cause { IfErr result (λ fault. AreNotChosen most services nets bans.now entries.now
+    ensures cause { IfErr result (λ fault. AreNotChosen max services nets bans.now entries.now
         tables.old now source.now words.now fault tables.new) }
 {
-    let need = entries.len() + most.min(entries.len());
+    let need = entries.len() + max.min(entries.len());
     if words.len() < need {
         return Err(MessageFault::ShortWords {
             need: need as u32,
             have: words.len() as u32,
         });
     }
-    let Ok(found) = chosen(alloc, entries, most, services, nets, bans, now, words) else {
+    let Ok(found) = chosen(alloc, entries, max, services, nets, bans, now, words) else {
         return Err(MessageFault::Memory);
     };
     let rest = &words[entries.len()..];
@@ -118,7 +118,7 @@ fn take_some<H: BuildHasher>(
 fn chosen(
     alloc: Global,
     entries: &[Option<Entry>],
-    most: usize,
+    max: usize,
     services: u64,
     nets: NetSet,
     bans: &Bans,
@@ -127,12 +127,12 @@ fn chosen(
 ) -> Result<Vec<Option<Entry>>, Memory>
     requires enough { length entries.now ≤ length words.now }
     ensures found { IfOk result (λ es. es.items
-        ≡ chosen most services nets bans.now now words.now entries.now) }
-    ensures count { IfOk result (λ es. length es.items ≡ min most (length entries.now)) }
+        ≡ chosen max services nets bans.now now words.now entries.now) }
+    ensures count { IfOk result (λ es. length es.items ≡ min max (length entries.now)) }
 {
     let mut all = Vec::from_slice(alloc, entries)?;
     shuffle(all.as_mut_slice(), words);
-    let first = &all[..most.min(all.len())];
+    let first = &all[..max.min(all.len())];
     useful_of(alloc, first, services, nets, bans, now)
 }
 

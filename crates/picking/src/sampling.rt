@@ -49,9 +49,9 @@ pub(crate) fn count_of<H: BuildHasher>(tables: &Tables<'_, H>) -> u32
 
 /// Returns how many peers a sample of `count` records may have: at most `most`, and at most
 /// `percent` percent of the records. For both, 0 is no limit.
-pub(crate) fn sample_limit(count: u32, most: u32, percent: u32) -> u32
+pub(crate) fn sample_limit(count: u32, max: u32, percent: u32) -> u32
     requires percent { percent ≤ 100 }
-    ensures limit { result ≡ sample_limit count most percent }
+    ensures limit { result ≡ sample_limit count max percent }
     ensures few { result ≤ count }
 {
     let part = if percent == 0 {
@@ -59,7 +59,7 @@ pub(crate) fn sample_limit(count: u32, most: u32, percent: u32) -> u32
     } else {
         (u64::from(percent) * u64::from(count) / 100) as u32
     };
-    if most == 0 { part } else { most.min(part) }
+    if max == 0 { part } else { max.min(part) }
 }
 
 /// Exchanges a position of the order with one that the random word selects, itself or a later one.
