@@ -3,6 +3,7 @@ samples, open peers, and a message of which a node has a use for some entries on
 import random
 
 import addresses
+import bans as banning
 import names
 import places
 
@@ -163,6 +164,18 @@ def check_chosen():
         same("the tables after it", third.file(), fourth.file())
 
 
+def check_nothing():
+    """Messages of no entries, and bans from and until 0."""
+    for is_v2 in (False, True):
+        same("a message of no entries", addrman.write_message(is_v2, []), b"\0")
+        same("what is read of it", addrman.read_message(is_v2, b"\0"), [])
+    ours, theirs = addrman.Bans(), banning.BanList({}, [], {}, [], False)
+    for text, now, until in (("10.0.0.0/8", 0, 0), ("10.0.0.0/8", 0, 5), ("::/0", 0, 1), ("::/0", 0, 0), ("10.0.0.0/8", 5, 0), ("::/0", 1, 0)):
+        reply = banning.ban(theirs, banning.read_subnet(text.encode(), False), now, until)
+        same("a ban from 0 or until 0", "ban " + ours.add(text, now, until), reply)
+        same("the list after it", ours.file(), banning.written_list(theirs))
+
+
 def main():
     check_names()
     am, peers = filled(300)
@@ -170,6 +183,7 @@ def main():
     check_records(am, peers)
     check_room()
     check_chosen()
+    check_nothing()
     print(f"Python: {compared} answers on names, slots, records, open peers and chosen entries are as they have to be")
 
 
