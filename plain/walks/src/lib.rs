@@ -1,6 +1,6 @@
 //! Tests by many calls: the slots, the order of records and the tables beside plain lists, full
 //! containers, calls that run out of memory, tables of prefixes and their asmaps beside a walk over
-//! all rows, the largest of them, texts of records, printed and read, and the hasher of the library
+//! all rows, the largest of them and that of no rows, texts of records, printed and read, and the hasher of the library
 //! for C.
 #![cfg(test)]
 
@@ -20,6 +20,7 @@ mod random_tables;
 mod raw_texts;
 mod samples;
 mod seeds;
+mod smallest;
 mod table_texts;
 
 use entries::Tabled;
@@ -135,4 +136,19 @@ fn what_raw_prints_is_read_as_the_slots_and_records() {
 #[test]
 fn the_first_fault_of_a_text_is_named_with_its_place() {
     assert_eq!(raw_texts::wrong_faults(Global), "");
+}
+
+#[test]
+fn no_bytes_and_the_number_0_are_the_text_of_the_number() {
+    assert!(smallest::zero_is_the_whole_text(Global));
+}
+
+#[test]
+fn no_rows_are_a_table() {
+    assert!(smallest::no_rows_are_a_table(Global));
+}
+
+#[test]
+fn the_first_instruction_is_a_bit() {
+    assert!(smallest::the_first_instruction_is_a_bit(Global));
 }
