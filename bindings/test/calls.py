@@ -165,7 +165,7 @@ def check_chosen():
 
 
 def check_nothing():
-    """Messages of no entries, and bans from and until 0."""
+    """Messages of no entries, bans from and until 0, answers of empty tables, and connection 0 at 0."""
     for is_v2 in (False, True):
         same("a message of no entries", addrman.write_message(is_v2, []), b"\0")
         same("what is read of it", addrman.read_message(is_v2, b"\0"), [])
@@ -174,6 +174,11 @@ def check_nothing():
         reply = banning.ban(theirs, banning.read_subnet(text.encode(), False), now, until)
         same("a ban from 0 or until 0", "ban " + ours.add(text, now, until), reply)
         same("the list after it", ours.file(), banning.written_list(theirs))
+    am, answers, limiter = addrman.AddrMan(KEY, SEED), addrman.Answers(), addrman.Limiter()
+    for requester in (addrman.UNROUTABLE, addrman.IPV4):
+        for words_given in ([0], []):
+            same("an answer of empty tables", answers.answer(am, ours, requester, 0, True, False, 0, words_given), b"\0")
+    same("two connections 0", [limiter.add(0, "1.2.3.4", False, 0), limiter.add(0, "1.2.3.4", False, 0)], [True, False])
 
 
 def main():
