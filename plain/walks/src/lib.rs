@@ -152,3 +152,8 @@ fn no_rows_are_a_table() {
 fn the_first_instruction_is_a_bit() {
     assert!(smallest::the_first_instruction_is_a_bit(Global));
 }
+
+#[test]
+fn marks_of_0_are_drawn() {
+    assert!(smallest::marks_of_0_are_drawn(Global));
+}
