@@ -30,16 +30,19 @@ dead_code = "allow"
 unused_parens = "allow"
 unused_variables = "allow"
 
-# A loop or a match is proved where a closure or a method would want a proof of its own, an index is
-# what a contract speaks of, slices are compared as references, and C passes pointers to functions
-# that are not marked unsafe.
+# A loop or a match is proved where a closure or a method would want a proof of its own, an index or
+# a length is what a contract speaks of, a large variant lies in place, since a box may lack memory,
+# slices are compared as references, and C passes pointers to functions that are not marked unsafe.
 [lints.clippy]
 collapsible_if = "allow"
 collapsible_match = "allow"
 explicit_auto_deref = "allow"
 explicit_counter_loop = "allow"
 if_same_then_else = "allow"
+large_enum_variant = "allow"
 len_without_is_empty = "allow"
+len_zero = "allow"
+manual_contains = "allow"
 manual_div_ceil = "allow"
 manual_filter = "allow"
 manual_find = "allow"

@@ -160,7 +160,7 @@ impl CallsWork {
     /// Does the calls on new tables, and gives a sum of what they answered.
     pub fn run(self, alloc: Global) -> Result<u64, Refusal> {
         let placer = Placer::make([7; 32], None);
-        match Tables::open(alloc, placer, Keyed::make(1, 2)) {
+        match Tables::open(alloc, placer, Keyed::of(&[1, 2])) {
             Ok(mut tables) => self.run_on(alloc, &mut tables),
             Err(_) => Err(Refusal::NoMemory),
         }

@@ -26,7 +26,7 @@ pub(crate) struct NodesWork {
 fn node(alloc: Global, number: u32) -> Result<Node, Refusal> {
     let mut key = [7; 32];
     key[..4].copy_from_slice(&number.to_le_bytes());
-    match Tables::open(alloc, Placer::make(key, None), Keyed::make(1, 2)) {
+    match Tables::open(alloc, Placer::make(key, None), Keyed::of(&[1, 2])) {
         Ok(tables) => Ok(Session::make(Manager::open(tables), Chain::Main)),
         Err(_) => Err(Refusal::NoMemory),
     }
