@@ -176,8 +176,8 @@ def check_nothing():
         same("the list after it", ours.file(), banning.written_list(theirs))
     am, answers, limiter = addrman.AddrMan(KEY, SEED), addrman.Answers(), addrman.Limiter()
     for requester in (addrman.UNROUTABLE, addrman.IPV4):
-        for words_given in ([0], []):
-            same("an answer of empty tables", answers.answer(am, ours, requester, 0, True, False, 0, words_given), b"\0")
+        for is_v2, drawn in ((True, [0]), (False, []), (True, [])):
+            same("an answer of empty tables", answers.answer(am, ours, requester, 0, is_v2, False, 0, drawn), b"\0")
     same("two connections 0", [limiter.add(0, "1.2.3.4", False, 0), limiter.add(0, "1.2.3.4", False, 0)], [True, False])
 
 
