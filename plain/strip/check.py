@@ -83,7 +83,7 @@ def check_tokens(source, path, text):
 
 
 def loose(path, text):
-    """How often each token stands in a text, without those that a formatter adds or drops."""
+    """How often each token is in a text, without those that a formatter adds or drops."""
     return Counter(t for t in texts_of(cut(path, text)) if t not in (',', '{', '}', '(', ')', ';'))
 
 

@@ -110,7 +110,7 @@ def drop_labels(source):
 
 
 def drop_comments(source):
-    """What stands right above a ghost member speaks of it."""
+    """What is right above a ghost member speaks of it."""
     for at, token in enumerate(source.tokens):
         if token.gone == 'ghost member':
             source.drop_comments(at, 'ghost member')

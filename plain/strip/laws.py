@@ -11,7 +11,7 @@ TYPES_OF_STD = {('std', 'alloc::' + name) for name in ('AllocError', 'AllocFaile
 
 
 def promises(source, function):
-    """Whether an `ensures` stands before the function's body."""
+    """Whether an `ensures` is before the function's body."""
     first = source.place[id(source.code[function.params[1]])]
     last = source.place[id(source.code[function.body[0]])]
     return any(token.kind == GHOST and token.gone == 'ensures'

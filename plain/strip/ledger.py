@@ -1,8 +1,8 @@
 """Takes out the tokens of a ledger, which take no bytes and do nothing.
 
-A type is ghost if it is one of `std::sync::ledger`, or a struct that holds such types alone. Its
+A type is ghost if it is one of `std::sync::ledger`, or a struct that holds only such types. Its
 declaration and impls go, parameters and arguments of it, and statements that make or call one.
-Where a value of it stands otherwise, the script refuses.
+Where a value of it is elsewhere, the script refuses.
 """
 from laws import drop_removed
 from names import Names
@@ -46,7 +46,7 @@ def fields_of(source, at):
 
 
 def ghost_structs(source, ghosts):
-    """The structs of a file that hold ghost types alone: name and position."""
+    """The structs of a file that hold only ghost types: name and position."""
     names, found = Names(source), []
     for at in range(len(source.code)):
         if source.text(at) == 'struct' and source.is_ident(at + 1):

@@ -152,7 +152,7 @@ class Names:
 
 
 def mentions(source):
-    """How often each name stands in the code outside `use` lines, and in formats."""
+    """How often each name is in the code outside `use` lines, and in formats."""
     counts, skip = {}, [False] * len(source.code)
     for use in uses(source):
         for at in range(use.start, use.end):
@@ -167,6 +167,6 @@ def mentions(source):
 
 
 def starts_path(source, at):
-    """Whether a name begins a path: nothing that names its owner stands before it."""
+    """Whether a name begins a path: nothing that names its owner is before it."""
     before = source.code[at - 1] if at else None
     return not (before and before.kind == PUNCT and before.text in ('.', '::'))

@@ -1,4 +1,4 @@
-"""Writes the crate for Rust and all that it stands on as one package.
+"""Writes the crate for Rust and all that it uses as one package.
 
 A registry has one crate of a name, and ours have names such as `tables`. So each becomes a module
 below `parts`, and a path that begins with a crate's name begins with its module.
@@ -36,7 +36,7 @@ def name_of(folder):
 
 
 def below(folder, files, found):
-    """The crates that one stands on, by the names that its sources have for them."""
+    """The crates that one uses, by the names that its sources have for them."""
     if folder in found:
         return
     names = found[folder] = {}

@@ -1,4 +1,4 @@
-"""A file under way: its tokens, which of them are gone, and what stands before which."""
+"""A file under way: its tokens, which of them are gone, and what comes before which."""
 from tokens import COMMENT, DOC, GHOST, IDENT, PUNCT, SPACE, TRIVIA, Refused, cut
 
 OPEN = {'(': ')', '[': ']', '{': '}'}

@@ -23,7 +23,7 @@ edition.workspace = true
 publish.workspace = true
 rust-version.workspace = true
 
-# Some parameters, fields and functions are there for contracts alone, and a bound that is gone
+# Some parameters, fields and functions are there only for contracts, and a bound that is gone
 # leaves its parentheses.
 [lints.rust]
 dead_code = "allow"

@@ -32,7 +32,7 @@ impl From<AnchorsFault> for AnchorsError {
 }
 
 /// Writes the `anchors.dat` of these peers, at most 1000: those to which a node that stops has its
-/// connections for blocks alone. Bitcoin Core takes two.
+/// connections only for blocks. Bitcoin Core takes two.
 ///
 /// `magic` is the four bytes that begin the messages and files of the chain.
 ///

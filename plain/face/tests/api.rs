@@ -308,7 +308,7 @@ fn bytes_of(digits: &str) -> Vec<u8> {
     (0..digits.len()).step_by(2).map(byte).collect()
 }
 
-/// The checksum of the asmap in a file: it stands before that of the file.
+/// The checksum of the asmap in a file: it comes before that of the file.
 fn sum_in(file: &[u8]) -> &[u8] {
     &file[file.len() - 64..file.len() - 32]
 }

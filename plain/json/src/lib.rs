@@ -65,7 +65,7 @@ impl Pretty {
         self.out
     }
 
-    /// Writes a token, with what has to stand before it.
+    /// Writes a token, with what has to come before it.
     pub fn token(&mut self, token: Token<'_>) -> Result<(), AllocError> {
         let is_end = matches!(token, Token::EndObject | Token::EndArray);
         self.depth -= usize::from(is_end);

@@ -12,7 +12,7 @@ pub mod fd {
 }
 
 pub mod unix {
-    //! What Unix alone has.
+    //! What only Unix has.
 
     pub mod fs {
         //! Modes and symbolic links.
