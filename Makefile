@@ -184,13 +184,13 @@ archive:
 		--keep-section=.debug_frame --keep-section=.rela.debug_frame \
 		--redefine-sym free=wiping_free --redefine-sym realloc=wiping_realloc \
 		$(foreach it,$(CLOSES),--redefine-sym $(it)=proved_$(it)) bin/lib/proved.o
-	gcc -std=gnu99 -O2 -fPIC $(SANITIZER) -Wall -Wextra -DADDRMAN_VERSION='"$(VERSION)"' -c -o bin/lib/edges.o \
+	gcc -std=gnu99 -O2 -fPIC $(SANITIZER) $(CPPFLAGS) $(CFLAGS) -Wall -Wextra -DADDRMAN_VERSION='"$(VERSION)"' -c -o bin/lib/edges.o \
 		bindings/edges.c
 	ld -r -o bin/lib/addrman.o bin/lib/proved.o bin/lib/edges.o
 	objcopy --wildcard --keep-global-symbol='addrman_*' bin/lib/addrman.o
 	rm -f bin/lib/libaddrman.a
 	ar rcs bin/lib/libaddrman.a bin/lib/addrman.o
-	gcc -shared $(SANITIZER) -o bin/lib/libaddrman.so.1 -Wl,-soname,libaddrman.so.1 -Wl,-z,defs -Wl,-z,now \
+	gcc -shared $(SANITIZER) $(LDFLAGS) -o bin/lib/libaddrman.so.1 -Wl,-soname,libaddrman.so.1 -Wl,-z,defs -Wl,-z,now \
 		-Wl,-z,relro -Wl,--version-script=bindings/addrman.map bin/lib/addrman.o
 	ln -sf libaddrman.so.1 bin/lib/libaddrman.so
 	rm bin/lib/addrman.o bin/lib/proved.o bin/lib/edges.o

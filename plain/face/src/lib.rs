@@ -51,6 +51,8 @@
 //! # Features
 //!
 //! `serde`: peers and addresses as their texts, entries and records as structs.
+
+#![deny(unsafe_op_in_unsafe_fn)]
 #![deny(unsafe_code)]
 #![deny(missing_docs)]
 

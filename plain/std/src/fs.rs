@@ -7,7 +7,21 @@ use crate::string::String;
 use crate::vec::Vec;
 use std::io::{Read as _, Seek as _, Write as _};
 
-pub use std::fs::{Permissions, TryLockError};
+pub use std::fs::Permissions;
+
+/// Why a file is not locked.
+#[derive(Debug)]
+pub enum TryLockError {
+    /// A fault of the system.
+    Error(std::io::Error),
+    /// Another has locked it.
+    WouldBlock,
+}
+
+#[cfg(unix)]
+extern "C" {
+    fn flock(fd: std::os::raw::c_int, operation: std::os::raw::c_int) -> std::os::raw::c_int;
+}
 
 /// What is known of a file.
 #[derive(Clone, Debug)]
@@ -38,7 +52,7 @@ impl Metadata {
     }
 
     /// Returns the size in bytes.
-    #[expect(clippy::len_without_is_empty, reason = "std's has none")]
+    #[allow(clippy::len_without_is_empty)]
     pub fn len(&self) -> u64 {
         self.len
     }
@@ -66,7 +80,16 @@ impl File {
 
     /// Locks the file, unless another process has.
     pub fn try_lock(&self) -> Result<(), TryLockError> {
-        self.0.try_lock()
+        use std::os::unix::io::AsRawFd;
+        // SAFETY: the descriptor is open. 2 is LOCK_EX and 4 is LOCK_NB on every Unix that Rust has.
+        if unsafe { flock(self.0.as_raw_fd(), 2 | 4) } == 0 {
+            return Ok(());
+        }
+        let error = std::io::Error::last_os_error();
+        match error.kind() {
+            std::io::ErrorKind::WouldBlock => Err(TryLockError::WouldBlock),
+            _ => Err(TryLockError::Error(error)),
+        }
     }
 }
 

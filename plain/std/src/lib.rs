@@ -6,6 +6,8 @@
 //!
 //! What can go wrong in these modules is not proved: they are read and tested like any Rust.
 
+#![deny(unsafe_op_in_unsafe_fn)]
+
 #[cfg(not(any(target_pointer_width = "64", feature = "narrow")))]
 compile_error!(
     "the proofs hold where a usize has 64 bits; on 32 bits the program is only tested, and the \
@@ -14,6 +16,7 @@ compile_error!(
 #[cfg(target_pointer_width = "16")]
 compile_error!("16 bits are too few for a usize");
 
+pub mod younger;
 pub mod alloc;
 pub mod boxed;
 pub mod c;
