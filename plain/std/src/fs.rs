@@ -18,11 +18,6 @@ pub enum TryLockError {
     WouldBlock,
 }
 
-#[cfg(unix)]
-extern "C" {
-    fn flock(fd: std::os::raw::c_int, operation: std::os::raw::c_int) -> std::os::raw::c_int;
-}
-
 /// What is known of a file.
 #[derive(Clone, Debug)]
 pub struct Metadata {
@@ -37,6 +32,16 @@ impl Metadata {
         Metadata {
             is_file: true,
             is_dir: false,
+            len,
+        }
+    }
+
+    /// Returns what is known of a file of one kind or another.
+    #[cfg(unix)]
+    pub(crate) fn of(is_file: bool, is_dir: bool, len: u64) -> Metadata {
+        Metadata {
+            is_file,
+            is_dir,
             len,
         }
     }
@@ -81,8 +86,8 @@ impl File {
     /// Locks the file, unless another process has.
     pub fn try_lock(&self) -> Result<(), TryLockError> {
         use std::os::unix::io::AsRawFd;
-        // SAFETY: the descriptor is open. 2 is LOCK_EX and 4 is LOCK_NB on every Unix that Rust has.
-        if unsafe { flock(self.0.as_raw_fd(), 2 | 4) } == 0 {
+        // SAFETY: the descriptor is open.
+        if unsafe { libc::flock(self.0.as_raw_fd(), libc::LOCK_EX | libc::LOCK_NB) } == 0 {
             return Ok(());
         }
         let error = std::io::Error::last_os_error();
@@ -210,15 +215,36 @@ impl OpenOptions {
     }
 
     /// Returns the options as those of std.
-    pub fn of_std(&self) -> std::fs::OpenOptions {
+    #[cfg(not(unix))]
+    pub(crate) fn of_std(&self) -> std::fs::OpenOptions {
         let mut how = std::fs::OpenOptions::new();
         how.read(self.read).write(self.write).append(self.append);
         how.truncate(self.truncate)
             .create(self.create)
             .create_new(self.create_new);
-        #[cfg(unix)]
-        std::os::unix::fs::OpenOptionsExt::mode(&mut how, self.mode);
         how
+    }
+
+    /// Returns the options as the flags of C's `open`.
+    #[cfg(unix)]
+    pub(crate) fn unix_flags(&self) -> libc::c_int {
+        let access = match (self.read, self.write || self.append) {
+            (true, true) => libc::O_RDWR,
+            (false, true) => libc::O_WRONLY,
+            (_, false) => libc::O_RDONLY,
+        };
+        let flag = |set: bool, flag: libc::c_int| if set { flag } else { 0 };
+        access
+            | flag(self.append, libc::O_APPEND)
+            | flag(self.truncate, libc::O_TRUNC)
+            | flag(self.create || self.create_new, libc::O_CREAT)
+            | flag(self.create_new, libc::O_EXCL)
+    }
+
+    /// Returns the permission bits of a file that is made, as C's `open` takes them.
+    #[cfg(unix)]
+    pub(crate) fn unix_mode(&self) -> libc::c_uint {
+        self.mode as libc::c_uint
     }
 }
 

@@ -16,7 +16,6 @@ compile_error!(
 #[cfg(target_pointer_width = "16")]
 compile_error!("16 bits are too few for a usize");
 
-pub mod younger;
 pub mod alloc;
 pub mod boxed;
 pub mod c;
@@ -28,7 +27,11 @@ pub mod io;
 mod macros;
 pub mod os;
 pub mod path;
+#[cfg_attr(unix, path = "unix_paths.rs")]
+#[cfg_attr(not(unix), path = "std_paths.rs")]
+mod paths;
 pub mod process;
 pub mod rt;
 pub mod string;
 pub mod vec;
+pub mod younger;
