@@ -1,3 +1,5 @@
+//! `Form`, which is `addr` or `addrv2`, and how each reads and writes an entry.
+
 ghost use Rattle.std.specs.Prelude.{◌≡◌, ◌++◌, OnOk};
 ghost use Rattle.wire_num.specs.Readings.{Gives};
 ghost use Rattle.addr_codecs.specs.Entries.{IsEntry};

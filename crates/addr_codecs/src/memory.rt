@@ -1,3 +1,6 @@
+//! `Memory`, the error of this crate when it is out of memory, and its conversions from those of
+//! lower crates.
+
 use std::alloc::AllocError;
 
 /// Out of memory.

@@ -1,3 +1,5 @@
+//! Writes messages, entries and addresses as bytes: `write_addr`, `write_addrv2` and `put_address`.
+
 ghost use Rattle.std.specs.Prelude.{◌≡◌, ◌≢◌, ◌⊎◌, ◌≤◌, ◌++◌, [], length, map, All, IfOk, OnOk, OnErr, Some, unwrap_or, take, vec_len};
 ghost use Rattle.net_addr.specs.Address.{IsAddress};
 ghost use Rattle.net_addr.specs.OldForm.{v1_bytes};

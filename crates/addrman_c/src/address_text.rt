@@ -1,3 +1,6 @@
+//! Prints addresses, peers and names into buffers of fixed length: `dotted`, `bracketed` and
+//! `groups`.
+
 ghost use Rattle.std.specs.Prelude.{◌≡◌, ◌+◌, ◌*◌, ◌≤◌, ◌∷◌, ◌++◌, codes, decimal, length};
 ghost use Rattle.std.specs.Int.{w128, to_be_bytes};
 ghost use Rattle.arrayvec.specs.ArrayVec.{array_vec_len};

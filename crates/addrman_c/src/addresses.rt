@@ -1,3 +1,6 @@
+//! The exports on addresses: `addrman_addr_parse`, `addrman_peer_text`, `addrman_name_text`,
+//! `addrman_addr_class` and others.
+
 ghost use Rattle.std.specs.Prelude.{◌≡◌, ◌≢◌, Some};
 ghost use Rattle.net_addr.specs.Address.{Address};
 ghost use Rattle.net_addr.specs.Text.{IsAddrText, IsPeerText, addr_text, peer_text};

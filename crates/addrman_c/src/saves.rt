@@ -1,3 +1,5 @@
+//! A save as requests to the caller: `addrman_save_begin`, `_next`, `_done` and `_close`.
+
 ghost use Rattle.std.specs.Prelude.{◌≡◌, ◌≢◌, ◌<◌, Option, None, IfSome};
 ghost use Rattle.peers_file.specs.Texts.{file_text};
 ghost use Rattle.table_machine.specs.Snapshot.{snapshot_of};

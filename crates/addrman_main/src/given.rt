@@ -1,3 +1,6 @@
+//! `Given`, the options that `run` does not have: `-C`, `--key-file`, and the files after
+//! `--peers`, `--asmap`, `--bans` and `--anchors`.
+
 use hints::{ANCHORS, Paths, expected_text};
 use host_io::Name;
 use std::alloc::{AllocError, Global};

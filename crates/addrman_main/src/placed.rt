@@ -1,3 +1,5 @@
+//! `Placed`: the system with another path instead of a file's own.
+
 use hints::Paths;
 use host_io::Name;
 use std::alloc::{Allocator, Global};

@@ -1,3 +1,5 @@
+//! Which hint belongs to which status (`second_lines`).
+
 use addrman_run::{Learned, PeersFault, Status, SumFit, TablesFault};
 use hints::{
     Paths, Saves, anchors_hint, asmap_hint, bans_hint, compile_hint, duplicate_hint, line_hint,

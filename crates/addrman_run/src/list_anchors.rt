@@ -1,3 +1,5 @@
+//! `show --anchors`, the listing of a file of anchors; and `magic_of` a chain.
+
 ghost use Rattle.std.specs.Prelude.{◌≡◌};
 ghost use Rattle.peers_file.specs.Layout.{magic_of};
 ghost use Rattle.addrman_run.specs.Anchors.{IsAnchorsText, ReportsAnchors};

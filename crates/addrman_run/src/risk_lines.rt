@@ -1,3 +1,5 @@
+//! `risk -`: the sets that the lines of the input name, then their parts.
+
 ghost use Rattle.std.specs.Prelude.{◌≡◌, ◌≢◌, ◌+◌, [], All, IfOk, true, false};
 ghost use Rattle.host_io.specs.Outside.{outside};
 ghost use Rattle.host_io.specs.Reading.{TakesAtMost};

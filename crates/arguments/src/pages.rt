@@ -1,3 +1,5 @@
+//! The texts of the help, a constant for each command: its form, a sentence and the rest.
+
 /// The help of a command: its form, what it does, and the rest of its page.
 pub(crate) type Page = (&'static str, &'static str, &'static str);
 

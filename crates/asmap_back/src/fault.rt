@@ -1,3 +1,5 @@
+//! `BackFault`: there are too many rows, or memory ran out.
+
 ghost use Rattle.std.specs.Prelude.{◌≡◌};
 ghost use Rattle.asmap_back.specs.declared.fault.BackFault.TheVariants as fault;
 

@@ -1,3 +1,5 @@
+//! `CompileFault`: the table is empty, the file would be too large, or memory ran out.
+
 ghost use Rattle.std.specs.Prelude.{◌≡◌};
 ghost use Rattle.asmap_compile.specs.FaultTexts.{compile_fault_text};
 ghost use Rattle.asmap_compile.specs.declared.fault.CompileFault.{CompileFault};

@@ -1,3 +1,5 @@
+//! `BitFront` writes bits from their end: each number goes before the bits that are there.
+
 ghost use Rattle.std.specs.Prelude.{◌≡◌, List, Bool, [], ◌++◌, length, OnOk, OnErr};
 ghost use Rattle.bit_code.specs.Coder.{HasValue, spelling};
 ghost use Rattle.bit_code.specs.Files.{IsFileOf};

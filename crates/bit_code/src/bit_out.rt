@@ -1,3 +1,5 @@
+//! `BitOut` writes bits: each number goes after the one before it.
+
 ghost use Rattle.std.specs.Prelude.{◌≡◌, List, Bool, [], ◌++◌, length, OnOk, OnErr};
 ghost use Rattle.bit_code.specs.Coder.{HasValue, spelling};
 ghost use Rattle.bit_code.specs.Files.{IsFileOf};

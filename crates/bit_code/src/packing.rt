@@ -1,3 +1,5 @@
+//! Packs bits into bytes: `append_bits`, `prepend_bits`, `shift_in` and `make_room`.
+
 ghost use Rattle.std.specs.Prelude.{◌≡◌, ◌+◌, ◌-◌, ◌*◌, ◌/◌, ◌%◌, ◌^◌, ◌<◌, ◌≤◌, Bool, List, ◌++◌, length, reverse, vec_len, vec_capacity, OnOk};
 ghost use Rattle.bit_code.specs.Coder.{file_bits, low_digits};
 ghost use Rattle.bit_code.specs.Files.{IsFileOf};

@@ -25,10 +25,11 @@ pub data Kind : Type 0 where
   Nets : Kind
   Classes : Kind
 
--- the numbers of 32 and of 64 bits
+-- The field of a number of 32 bits.
 abbrev pub u32_field : Kind
 u32_field = Number 0 (2 ^ 32 - 1)
 
+-- The field of a number of 64 bits.
 abbrev pub u64_field : Kind
 u64_field = Number 0 (2 ^ 64 - 1)
 
@@ -86,6 +87,7 @@ AreNets text set =
     ⊎ ((nets : List Net) × AreNames text nets × All (λ net. net ≢ Unroutable) nets
     × (set ≡ set_of nets))
 
+-- The first of two words if true, and the second if false.
 abbrev pub choice : List ℕ → List ℕ → Bool → List ℕ
 choice first second true = first
 choice first second false = second

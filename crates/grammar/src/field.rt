@@ -1,3 +1,5 @@
+//! Reads one field: a decimal number in a range, hexadecimal bytes, or one of two keywords.
+
 ghost use Rattle.std.specs.Prelude.{◌≡◌, ◌≢◌, ◌≤◌, ◌⊎◌, ℕ, List, decimal, IfOk, IfSome, Some, Ok, Err};
 ghost use Rattle.grammar.specs.Fields.{Means, Number, Either, TheNumber, TheChoice, IsFieldFault, IsHex};
 

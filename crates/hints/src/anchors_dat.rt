@@ -1,3 +1,5 @@
+//! What is wrong with an `anchors.dat`.
+
 use crate::files::{PACKED, is_packed};
 use crate::peers_dat::chain_of;
 use anchors::{AnchorCause, AnchorsFault, MAX_ANCHORS, MAX_FILE};

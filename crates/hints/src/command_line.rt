@@ -1,3 +1,6 @@
+//! Which argument is wrong (`usage_hint`), the options of `risk` and `show`, and the options that
+//! name files.
+
 use crate::keyword_fields::{expected_text, explain, unknown_keyword};
 use crate::log_line::{SET, set_text};
 use crate::options::{explain_options, wrong_option};

@@ -1,3 +1,5 @@
+//! The usual errors in addresses, peers, subnets and names (`USUAL`).
+
 /// An error that people often make in an address, a peer, a subnet or a name.
 #[derive(Clone, Copy)]
 enum Usual {

@@ -1,3 +1,5 @@
+//! Which call on a file or stream failed, and why.
+
 use crate::files::Paths;
 use host_io::{Failure, Tried};
 use std::alloc::{AllocError, Global};

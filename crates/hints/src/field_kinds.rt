@@ -1,3 +1,5 @@
+//! `Wanted`: what a name in a form means, such as `PEER` or `TIME`.
+
 use crate::common_errors::usual_error;
 use ban_list::{BanRule, parse_subnet_by};
 use gen_load::MAX_LINES;

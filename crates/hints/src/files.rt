@@ -1,3 +1,5 @@
+//! `Paths` of options, missing files, gzip, byte order marks, the asmap, and the JSON of bans.
+
 use asmap_compile::{CompileFault, MAX_BITS};
 use asmap_vm::CodeFault;
 use ban_list::{BanFault, MAX_BANS, MAX_FILE};

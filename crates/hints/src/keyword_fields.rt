@@ -1,3 +1,5 @@
+//! Which field after a keyword is wrong, and which keyword is nearest by edits.
+
 use crate::field_kinds::find_wanted;
 use crate::quoting::quoted;
 use crate::syntax::{Reader, keyword_of};

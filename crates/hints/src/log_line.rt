@@ -1,3 +1,5 @@
+//! What is wrong with a line of a log, and in which column.
+
 use crate::common_errors::usual_error;
 use crate::files::{MARKED, is_marked};
 use crate::keyword_fields::{expected_text, explain};

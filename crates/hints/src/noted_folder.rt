@@ -1,3 +1,5 @@
+//! `NotedFolder`: a folder that counts saves and reports those that failed.
+
 ghost use Rattle.std.specs.Prelude.{◌≡◌, ◌≤◌, length, IfSome, IsNone};
 ghost use Rattle.std.proofs.Props.{props};
 

@@ -1,3 +1,5 @@
+//! What is wrong with an option or its value: the key, the chain, the magic.
+
 use crate::keyword_fields::expected_text;
 use crate::peers_dat::CHAINS;
 use crate::quoting::quoted;

@@ -1,3 +1,5 @@
+//! What is wrong with a row of `prefixes.txt`.
+
 use crate::common_errors::usual_error;
 use crate::files::{MARKED, PACKED, is_marked, is_packed};
 use crate::keyword_fields::expected_text;

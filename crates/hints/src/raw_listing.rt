@@ -1,3 +1,5 @@
+//! `listing_hint`: why a listing is refused, and what it has to be.
+
 use crate::files::{PACKED, is_packed, json_hint};
 use raw_file::ListingFault;
 use raw_read::{Field, MAX_TEXT, RawFault};

@@ -1,3 +1,6 @@
+//! `DirFolder`, the real current directory, with `flock`, permission bits, `fsync`, `rename` and
+//! open files.
+
 ghost use Rattle.std.specs.Prelude.{◌≡◌, ◌≢◌, ℕ, ◌<◌, ◌≤◌, length, IfOk, OnOk, OnErr, None};
 ghost use Rattle.host_io.specs.declared.name.Name.{Name};
 ghost use Rattle.host_io.specs.Faults.{Rose, raised};

@@ -1,3 +1,6 @@
+//! Calls that fail: `Failed`, `ReadFault` and `Failure`, the count of faults, and `FailingCalls`,
+//! which says which calls of an object in memory fail.
+
 ghost use Rattle.host_io.specs.declared.failed.ReadFault.TheVariants as fault;
 ghost use Rattle.std.specs.Prelude.{◌≡◌, ◌≤◌, ◌↔◌, Contains, IsErr, IfOk, OnOk, OnErr};
 ghost use Rattle.host_io.specs.Faults.{Rose, StillCountHasNotRisen, raised};

@@ -1,3 +1,6 @@
+//! The trait `Folder` (`size`, `read`, `create`, `append`, `sync`, `rename`, `sync_dir`), and
+//! `SureFolder`, whose calls never fail.
+
 ghost use Rattle.std.specs.Prelude.{◌≡◌, ◌≢◌, ℕ, ◌<◌, ◌≤◌, ◌↔◌, ◌++◌, length, take, drop, Option, IfOk, IfSome, OnOk, OnErr, None, Ok};
 ghost use Rattle.std.specs.Option.{option_map};
 ghost use Rattle.host_io.specs.Disk.{after_create, after_append, after_sync, after_rename, after_sync_dir, Partly, PartlyAppended};

@@ -1,3 +1,5 @@
+//! `MemFolder`: a folder in memory with its history, the calls that fail, and `crash`.
+
 ghost use Rattle.std.specs.Prelude.{◌≡◌, ◌≢◌, ◌<◌, ◌≤◌, ◌++◌, [], length, min, take, drop, IsErr, IsSome, IfOk, IfSome, OnOk, OnErr, Some, None};
 ghost use Rattle.std.specs.Option.{option_map};
 ghost use Rattle.host_io.specs.Disk.{IsImage, Partly, PartlyAppended, after_append, after_create, after_rename, after_sync, after_sync_dir};

@@ -1,3 +1,6 @@
+//! `read_past` reads a file in pieces of at most `PIECE` (65,536) bytes, up to a limit and one byte
+//! more.
+
 ghost use Rattle.std.specs.Prelude.{◌≡◌, ◌+◌, ◌<◌, ◌≤◌, ◌++◌, length, take, drop, vec_len, IfOk, IfSome, IsErrOf};
 ghost use Rattle.host_io.specs.Faults.{Rose};
 ghost use Rattle.host_io.specs.Files.{IsThere, known_bytes};

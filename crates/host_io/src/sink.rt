@@ -1,3 +1,6 @@
+//! The trait `Sink` of outputs with `write_all`, and three outputs: `StdSink`, `SureSink` and
+//! `MemSink`.
+
 ghost use Rattle.std.specs.Prelude.{◌≡◌, ℕ, ◌<◌, ◌≤◌, List, length, take, IfOk, IfNone, OnOk, OnErr, Option, None, IsOk, [], Contains, IsErr, Some};
 ghost use Rattle.host_io.specs.Faults.{Rose, raised};
 ghost use Rattle.host_io.specs.Writing.{Appended, AppendedPart};

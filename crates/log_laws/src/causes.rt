@@ -1,3 +1,6 @@
+//! Laws that hold whatever the lines: causes of buckets, few buckets for a group, and losses with
+//! causes.
+
 ghost use Rattle.std.specs.Prelude.{ℕ, List, Option};
 ghost use Rattle.placing.specs.Places.{Places};
 ghost use Rattle.peer_rec.specs.Snapshot.{Snapshot};

@@ -1,3 +1,6 @@
+//! `Manager`: `apply` carries out a `Command` and answers a `Reply`, with a function for each
+//! command. Also `Memory`, the error of this crate when it is out of memory.
+
 ghost use Rattle.std.specs.Prelude.{◌≡◌, ◌+◌, ◌≤◌, ◌<◌, ◌^◌, IfOk, OnErr};
 ghost use Rattle.addr_codecs.specs.declared.message.TheConstants.{MAX_ENTRIES};
 ghost use Rattle.addr_codecs.specs.Layout.{IsMessage, HasMessageFault};

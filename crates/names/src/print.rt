@@ -1,3 +1,5 @@
+//! `name_of` prints an address as a name with its suffix, or as IPv4 or IPv6 without brackets.
+
 ghost use Rattle.std.specs.Prelude.{◌≡◌, ◌++◌, length, IfOk};
 ghost use Rattle.std.specs.String.{string_bytes};
 ghost use Rattle.std.specs.Str.{IsAscii};

@@ -1,3 +1,6 @@
+//! `NetAddr`, an address: its bytes, its class, its linked IPv4 address, and whether it is valid,
+//! local or routable.
+
 ghost use Rattle.std.specs.Prelude.{◌≡◌};
 
 use crate::Net;

@@ -1,3 +1,6 @@
+//! Prints addresses and peers: dotted IPv4, IPv6 by RFC 5952 with `::`, brackets, and labels with
+//! hexadecimal digits.
+
 ghost use Rattle.std.specs.Prelude.{◌≡◌, ◌+◌, ◌*◌, ◌<◌, ◌≤◌, ◌^◌, ◌∷◌, ◌++◌, length, take, vec_len, codes, decimal, OnOk, OnErr};
 ghost use Rattle.std.specs.Int.{w32, w128, to_be_bytes};
 ghost use Rattle.std.specs.Char.{digit_char};

@@ -1,3 +1,6 @@
+//! `take_chosen` and `take_unbanned`: a shuffle, then the entries of useful networks and services
+//! that are not banned.
+
 ghost use Rattle.std.specs.Prelude.{◌≡◌, ◌≤◌, ◌<◌, ◌^◌, [], length, map, min, IfOk, IfErr};
 ghost use Rattle.addr_codecs.specs.declared.message.TheConstants.{MAX_ENTRIES};
 ghost use Rattle.node_calls.specs.Chosen.{AreChosen, AreNotChosen, IsChosenAdded, IsChosenFault, chosen, is_free, is_useful, network_of, shuffled, useful};

@@ -1,3 +1,5 @@
+//! Laws: each record counts, and the groups add up and are all listed.
+
 ghost use Rattle.std.specs.Prelude.{◌≡◌, ◌+◌, ◌==◌, ℕ, List, count_by, is_some, length, not};
 ghost use Rattle.std.specs.List.{sum_by};
 ghost use Rattle.peer_rec.specs.Rec.{is_tried};

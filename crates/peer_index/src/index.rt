@@ -1,3 +1,6 @@
+//! `PeerIndex` over a slab and a map: `add`, `remove`, `find`, `get`, `set`, `at` and `swap`. Also
+//! `Memory`, the error of this crate when it is out of memory.
+
 ghost use Rattle.std.specs.Prelude.{◌≡◌};
 
 use crate::counts::{Counts, sum};

@@ -1,3 +1,5 @@
+//! `PeerSet`: a set of peers, used while a file is checked for duplicates.
+
 use crate::counts::Counts;
 use crate::index::{Memory, PeerIndex};
 use indexmap::IndexMap;

@@ -1,3 +1,6 @@
+//! `Opener`: `judge`, `judge_feeler`, `add_peer`, `add_counted` and `close_peer`, with
+//! `MAX_OUTBOUND` and `MAX_TRIES`.
+
 ghost use Rattle.std.specs.Prelude.{◌≡◌, ◌<◌, ◌≤◌, ◌↔◌, [], length, Contains, IfOk, IsTrue};
 ghost use Rattle.peer_open.specs.Groups.{AreApart, groups, peers, has_group, is_open, with_peer, without_peer};
 ghost use Rattle.peer_open.specs.Verdicts.{IsTooSoon, judge, judge_feeler, is_recent};

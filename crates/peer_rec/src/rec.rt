@@ -1,3 +1,6 @@
+//! `Rec`: number, peer, source and times of a record, with `terrible` (`IsTerrible`) and `chance`
+//! (`GetChance`) and their limits in seconds.
+
 ghost use Rattle.std.specs.Prelude.{◌≡◌, ◌*◌, ◌/◌, ◌^◌, min};
 
 use crate::Place;

@@ -1,3 +1,6 @@
+//! `Chain` and its `magic`: main, the testnets, signet, regtest, or a signet given by its four
+//! bytes.
+
 ghost use Rattle.std.specs.Prelude.{◌≡◌};
 ghost use Rattle.peers_file.specs.Layout.{magic_of};
 

@@ -1,3 +1,6 @@
+//! `sample` (`GetAddr_`): exchanges in the order, the percentage and the eligible records; with
+//! `SampleFault` and `sample_limit`.
+
 ghost use Rattle.std.specs.Prelude.{◌≡◌, ◌≤◌, length, ◌+◌, ◌-◌, ◌%◌, ◌<◌, option_to_list, ◌^◌, ℕ, Err, IfOk, OnOk, OnErr, vec_len, vec_capacity};
 ghost use Rattle.picking.specs.declared.sampling.SampleFault.{SampleFault};
 ghost use Rattle.table_machine.specs.Picks.{is_eligible, sample_limit, eligible_at, order_swap, sample, sample_from};

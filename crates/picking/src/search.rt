@@ -1,3 +1,6 @@
+//! `select` and `select_by` (`Select_`): rounds, the chance times the factor, and one table or
+//! both.
+
 ghost use Rattle.std.specs.Prelude.{◌≡◌, ◌+◌, ◌*◌, ◌≤◌, ◌^◌, length, option_map, ◌/◌};
 ghost use Rattle.table_machine.specs.Picks.{candidate, candidates, first_accepted, first_factor, is_accepted, next_factor, candidates_of, candidates_of_either, select};
 ghost use Rattle.peer_rec.specs.declared.answers.Picked.TheVariants.{Exhausted};

@@ -1,3 +1,6 @@
+//! Laws of a picture: it is one tree of elements, its numbers count slots and buckets, and its dots
+//! show each slot.
+
 ghost use Rattle.std.specs.Prelude.{◌≡◌, ◌<◌, ℕ, true, List, All, Some, codes};
 ghost use Rattle.peer_rec.specs.declared.rec.Rec.{Rec};
 ghost use Rattle.picture_laws.specs.Counts.{CountsSlots, CountsWide, IsBehind};

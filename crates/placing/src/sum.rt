@@ -1,3 +1,6 @@
+//! `SumRule` and `sum_by`: the checksum of an asmap, over its bytes or over its bits as Bitcoin
+//! Core computes it.
+
 ghost use Rattle.std.specs.Prelude.{◌≡◌, ℕ, ◌<◌, ◌^◌, List, ◌++◌, map};
 ghost use Rattle.std.specs.Int.{from_bool};
 ghost use Rattle.bit_code.specs.Coder.{has_bit, low_digits};

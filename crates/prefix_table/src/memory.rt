@@ -1,3 +1,5 @@
+//! `Memory`, the error of this crate when it is out of memory.
+
 use std::alloc::AllocError;
 
 /// Out of memory.

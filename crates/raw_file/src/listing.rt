@@ -1,3 +1,5 @@
+//! `read_listing`: from the text to a `Snapshot`.
+
 ghost use Rattle.std.specs.Prelude.{◌≡◌, ◌≢◌, ◌≤◌, ◌*◌, length, IfOk, IfErr, OnOk, None, Some};
 ghost use Rattle.raw_file.specs.Faults.{HasListingFault, IsListing};
 ghost use Rattle.raw_file.specs.Inside.{AreRowsOf};

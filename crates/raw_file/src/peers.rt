@@ -1,3 +1,6 @@
+//! Each peer once: the records of both tables and the peers that are repeated; `Spot` is a bucket
+//! with a peer.
+
 ghost use Rattle.std.specs.Prelude.{◌≡◌, ◌≢◌, ◌≤◌, ◌++◌, length, ◌∷◌, ◌||◌, List, [], false, true, not, IfOk, IfErr, OnOk, map, None, Some};
 ghost use Rattle.std.specs.List.{list_any};
 ghost use Rattle.net_addr.specs.Same.{same_peer};

@@ -1,3 +1,5 @@
+//! The law that the output of `raw` is read back as the slots and records of the tables.
+
 ghost use Rattle.std.specs.Prelude.{ℕ, List};
 ghost use Rattle.placing.specs.Places.{Places};
 ghost use Rattle.table_groups.specs.View as tables;

@@ -1,3 +1,5 @@
+//! Laws: of all lists of random words, how many end at a peer of a set, exactly and as a bound.
+
 ghost use Rattle.std.specs.Prelude.{◌≡◌, ℕ, ◌+◌, ◌*◌, ◌^◌, ◌<◌, List, Bool, true, false, ◌≤◌, not, ◌||◌, ◌==◌};
 ghost use Rattle.net_addr.specs.declared.peer.Peer.{Peer};
 ghost use Rattle.slot_grid.specs.declared.sizes.TheConstants.{SLOTS};

@@ -1,3 +1,5 @@
+//! `Parts`, `parts_among` and `millionths`, with `AHEAD`, `WHOLE` and `MILLION`.
+
 ghost use Rattle.std.specs.Prelude.{◌≡◌, ◌≤◌, ◌<◌, ◌^◌, ◌==◌, ◌||◌, ℕ, IfOk, length, true, false};
 ghost use Rattle.risk_sum.specs.Kinds.{AreKinds};
 ghost use Rattle.risk_parts.specs.Leads.{AreLeads, AreSomeLeads, FitsSets, parts_in, share_within};

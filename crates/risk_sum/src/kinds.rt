@@ -1,3 +1,6 @@
+//! `Kind` and `most`: a sum over rounds and refusals in 128-bit integers, with each quotient
+//! rounded up.
+
 ghost use Rattle.std.specs.Prelude.{◌≡◌, ◌+◌, ◌-◌, ◌*◌, ◌^◌, ◌≤◌, ◌<◌, All, length};
 ghost use Rattle.risk_sum.specs.Kinds.{AreKinds, starts_of, accepting, most_by, next_factor, refused_by, rounded_up, taken_by};
 

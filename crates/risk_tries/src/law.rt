@@ -1,3 +1,5 @@
+//! Of the lists of tries, the share that opens all outbound connections to peers of one set.
+
 ghost use Rattle.std.specs.Prelude.{◌≡◌, ℕ, ◌*◌, ◌^◌, ◌≤◌, Bool, List, map};
 ghost use Rattle.net_addr.specs.declared.peer.Peer.{Peer};
 ghost use Rattle.risk_tries.specs.TenBound.{group_share, ten_bound, whole_of};

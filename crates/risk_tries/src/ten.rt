@@ -1,3 +1,6 @@
+//! `ten_bound`: an upper bound, from the shares of groups, on the lists of tries that open all
+//! connections to them; with the least sums and `TRY_LISTS`.
+
 ghost use Rattle.std.specs.Prelude.{◌≡◌, ◌<◌, ◌≤◌, ◌^◌, All, IfSome, IfNone, fold, map, sum};
 ghost use Rattle.std.specs.List.{range_with_len};
 ghost use Rattle.risk_tries.specs.Inside.{after_one, least_sums, with_share};

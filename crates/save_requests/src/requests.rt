@@ -1,3 +1,5 @@
+//! `SaveRequests`, `SaveRequest` and `Stage`: create, append, sync, rename, and sync the folder.
+
 ghost use Rattle.std.specs.Prelude.{◌≡◌, ◌<◌, ◌≤◌, length, drop};
 ghost use Rattle.save_requests.specs.Requests.{next_of, piece_of, save_requests, IsSafeSave};
 ghost use Rattle.save_requests.specs.Inside.{asked_at, piece_at, stage_after};

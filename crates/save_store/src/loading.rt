@@ -1,3 +1,5 @@
+//! `load` reads a file up to a limit; `LoadFault` has the size of one that is too large.
+
 ghost use Rattle.host_io.specs.declared.failed.ReadFault.TheVariants as read;
 ghost use Rattle.save_store.specs.declared.loading.LoadFault.TheVariants as fault;
 ghost use Rattle.std.specs.Prelude.{◌≡◌, ℕ, ◌<◌, ◌≤◌, ◌⊎◌, length, IfOk, IfSome, IsErrOf};

@@ -1,3 +1,5 @@
+//! `SaveJob`, a save in pieces with the bytes written and those left: `begin`, `step` and `end`.
+
 ghost use Rattle.std.specs.Prelude.{◌≡◌, ◌≢◌, ◌≤◌, ◌++◌, ℕ, List, [], take, drop, length, IfOk, IfSome, OnOk, OnErr};
 ghost use Rattle.host_io.specs.Faults.{Rose};
 ghost use Rattle.host_io.specs.Past.{Always};

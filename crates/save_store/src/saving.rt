@@ -1,3 +1,5 @@
+//! A whole save by temporary name, fsync and rename: `save`, `write_temp` and `publish`.
+
 ghost use Rattle.std.specs.Prelude.{◌≢◌, ◌≤◌, ℕ, List, IfSome, OnOk, OnErr};
 ghost use Rattle.host_io.specs.Faults.{Rose};
 ghost use Rattle.host_io.specs.Past.{Always};

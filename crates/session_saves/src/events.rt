@@ -1,3 +1,5 @@
+//! Each save command as an event (whole, begin, step or end), with its reply.
+
 ghost use Rattle.std.specs.Prelude.{◌≡◌, ◌≤◌, Some, None};
 ghost use Rattle.std.specs.Option.{option_map};
 ghost use Rattle.save_store.specs.Job.{whole};

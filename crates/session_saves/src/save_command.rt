@@ -1,3 +1,5 @@
+//! `carry_out_save`: which command is which event, `busy` and `no save`.
+
 ghost use Rattle.std.specs.Prelude.{◌≡◌, ◌≤◌, None, IfOk, IfSome, IsSomeAnd, OnErr};
 ghost use Rattle.host_io.specs.Past.{Always};
 ghost use Rattle.session_saves.specs.Events.{IsEvent, event_of};

@@ -1,3 +1,5 @@
+//! Saves or begins to save the tables, unless a save is open.
+
 ghost use Rattle.std.specs.Prelude.{◌≡◌, ◌≢◌, ◌≤◌, None, IfOk, OnErr};
 ghost use Rattle.session_saves.specs.Events as event;
 ghost use Rattle.session_saves.specs.Files.{file_of, unless};

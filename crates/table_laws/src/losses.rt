@@ -1,3 +1,5 @@
+//! Laws: a record is lost only with a cause, by an entry, an opening or a restart.
+
 ghost use Rattle.std.specs.Prelude.{ℕ, Bool, All, length, ◌<◌};
 ghost use Rattle.table_laws.specs.Losses.{KeepsByEntry, KeepsBySuccess};
 ghost use Rattle.net_addr.specs.Address.{Address};

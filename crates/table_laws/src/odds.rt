@@ -1,3 +1,5 @@
+//! The law that picks of some records are bounded by the starts that lead to them.
+
 ghost use Rattle.std.specs.List.{range_with_len};
 ghost use Rattle.std.specs.Prelude.{ℕ, Bool, true, false, List, ◌≡◌, ◌≤◌, ◌*◌, ◌^◌, Contains, count_by, filter, length, sum_by};
 ghost use Rattle.table_laws.specs.Chances.{accepting_words, picking_words, words_for};

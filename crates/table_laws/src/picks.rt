@@ -1,3 +1,5 @@
+//! Laws that count rounds and picks: `gap`, and the residues that select a record.
+
 ghost use Rattle.std.specs.List.{range_with_len};
 ghost use Rattle.std.specs.Prelude.{List, Option, ℕ, ◌≡◌, Bool, ◌<◌, ◌*◌, true, false, Contains, find, filter, filter_map, count_by, sum_by};
 ghost use Rattle.table_laws.specs.Chances.{accepting_words, leading_slots, picking_words, words_for};

@@ -1,3 +1,5 @@
+//! Laws: a sample is a fair shuffle of the eligible records.
+
 ghost use Rattle.std.specs.Prelude.{List, ℕ, ◌≡◌, length, ◌≤◌, take, IsPermutation};
 ghost use Rattle.table_laws.specs.Samples.{eligible_peers};
 ghost use Rattle.table_laws.specs.Shuffle.{AreDraws, IsOnce, draws_of, exchanged};

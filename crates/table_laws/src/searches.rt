@@ -1,3 +1,5 @@
+//! Laws that count whole searches, round by round.
+
 ghost use Rattle.std.specs.Prelude.{◌≡◌, ℕ, suc, ◌+◌, ◌*◌, ◌^◌, ◌≤◌, List, Bool, true, not, Contains, count_by};
 ghost use Rattle.std.specs.List.{range_with_len};
 ghost use Rattle.table_laws.specs.Chances.{picking_words, words_for};

@@ -1,3 +1,5 @@
+//! Laws: which residues of random words decide, and that later words do not count.
+
 ghost use Rattle.std.specs.List.{range_with_len};
 ghost use Rattle.std.specs.Prelude.{ℕ, Bool, List, ◌≡◌, ◌≢◌, ◌==◌, ◌<◌, ◌++◌, ◌*◌, ◌%◌, ◌^◌, count_by, map};
 ghost use Rattle.peer_rec.specs.declared.answers.Picked.TheVariants.{Exhausted};

@@ -1,3 +1,5 @@
+//! `By`: what makes records one group, which is the source, the peer or the network.
+
 ghost use Rattle.std.specs.Prelude.{◌≡◌};
 ghost use Rattle.table_risk.specs.Grouping.{group_by};
 

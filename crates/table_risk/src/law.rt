@@ -1,3 +1,5 @@
+//! The law that the rows are bounds.
+
 ghost use Rattle.std.specs.Prelude.{◌≡◌, ℕ, ◌*◌, ◌^◌, ◌≤◌, Bool, true, false, List};
 ghost use Rattle.net_addr.specs.NetSet.{all};
 ghost use Rattle.net_addr.specs.declared.peer.Peer.{Peer};

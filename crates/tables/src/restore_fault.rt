@@ -1,3 +1,5 @@
+//! `RestoreFault`: a duplicate, or memory ran out.
+
 ghost use Rattle.std.specs.Prelude.{◌≡◌};
 ghost use Rattle.tables.specs.declared.restore_fault.RestoreFault.TheVariants.{Memory};
 

@@ -1,6 +1,7 @@
-// What crashes leave of a folder in memory in which three files were made and the folder was not
-// synced: each mix of what may be at their names. Then the same after it was synced, and after one
-// of the files was renamed and synced.
+//! What crashes leave of a folder in memory in which three files were made and the folder was not
+//! synced: each mix of what may be at their names. Then the same after it was synced, and after one
+//! of the files was renamed and synced.
+
 use host_io::{Bytes, Failed, Folder, MemFolder, Memory, Name};
 use save_store::{SaveJob, write_temp};
 use std::alloc::Global;

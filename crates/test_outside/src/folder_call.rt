@@ -1,3 +1,5 @@
+//! `FolderCall`, `CALLS` and `TURNS`: calls of a folder, printed with their answers.
+
 use host_io::{DirFolder, Failed, Folder, Lock, Name};
 use std::alloc::{AllocError, Global};
 use std::io;

@@ -24,6 +24,7 @@ sequence p q = record {
 }
 
 infixl 10 ◌>>=◌
+-- One format and then another, as `do` writes it.
 abbrev pub ◌>>=◌ : {F A B : Type 0} → Format F A → (A → Format F B) → Format F B
 p >>= q = sequence p q
 

@@ -1,3 +1,5 @@
+//! `read_compact` and `put_compact`: a CompactSize of 1, 3, 5 or 9 bytes, in its shortest encoding.
+
 ghost use Rattle.std.specs.Prelude.{◌≡◌, ◌↔◌, ℕ, ◌^◌, ◌<◌, ◌≤◌, List, ◌++◌, length, take, OnOk, OnErr, IfOk, IfNone, IfSome, Ok, Err, nat_lt, if◌then◌else◌};
 ghost use Rattle.wire_num.specs.declared.fault.WireFault.TheVariants.{Truncated, NonCanonical};
 ghost use Rattle.wire_num.specs.CompactSize.{compact_size};

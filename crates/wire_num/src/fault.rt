@@ -1,3 +1,6 @@
+//! `WireFault`: the bytes end too early, or a CompactSize is longer than needed. Also `Memory`, the
+//! error of this crate when it is out of memory.
+
 use std::alloc::AllocError;
 
 /// Why a field cannot be read.
