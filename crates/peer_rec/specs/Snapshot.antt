@@ -15,6 +15,7 @@ pub record Snapshot : Type 0 where
   pub listed : List (ℕ × ℕ)
   pub sum : List ℕ
 
+-- The snapshot with these parts.
 abbrev pub snapshot : List ℕ → List FileRec → List FileRec → ℕ → List (ℕ × ℕ) → List ℕ → Snapshot
 snapshot key new_recs tried_recs bucket_count listed sum = record {
   key = key;

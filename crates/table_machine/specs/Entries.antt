@@ -14,10 +14,11 @@ use Rattle.peer_rec.specs.declared.place.Place.TheVariants.{New}
 use Rattle.peer_rec.specs.declared.buckets.TheConstants.{MAX_LISTS}
 use Rattle.table_machine.specs.State.{State, find_peer, new_rec_at, After, outcome}
 
--- whether an entry got a slot, or whether a peer is known
+-- The entry got no slot, or the peer is not known.
 abbrev pub no : State → After Bool
 no st = outcome false st
 
+-- The entry got a slot, or the peer is known.
 abbrev pub yes : State → After Bool
 yes st = outcome true st
 

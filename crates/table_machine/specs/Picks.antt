@@ -16,10 +16,11 @@ use Rattle.table_machine.specs.State.{State, by_number, new_rec_at, tried_rec_at
 abbrev pub is_wanted : List ℕ → Rec → Bool
 is_wanted nets r = has nets (network r)
 
--- how many records of the new table, and of the tried table, are wanted
+-- The number of records of the new table that are eligible: of a network in the set.
 abbrev pub wanted_new : State → List ℕ → ℕ
 wanted_new st nets = count_by (λ r. not (is_tried r) && is_wanted nets r) st.records
 
+-- The number of records of the tried table that are eligible.
 abbrev pub wanted_tried : State → List ℕ → ℕ
 wanted_tried st nets = count_by (λ r. is_tried r && is_wanted nets r) st.records
 
@@ -28,6 +29,7 @@ abbrev pub occupant_at : State → Bool → ℕ → ℕ → Option Rec
 occupant_at st true bucket slot = new_rec_at st bucket slot
 occupant_at st false bucket slot = tried_rec_at st bucket slot
 
+-- The number of buckets of the new table (`true`) or of the tried table (`false`).
 abbrev pub bucket_count : Bool → ℕ
 bucket_count true = NEW_BUCKETS
 bucket_count false = TRIED_BUCKETS
