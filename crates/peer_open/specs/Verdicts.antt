@@ -19,6 +19,8 @@ IsTooSoon last_try now tries = (now - last_try < 600) × (tries ≤ 30)
 abbrev pub judge_feeler : ℕ → ℕ → ℕ → Verdict
 judge_feeler last_try now tries = if is_recent last_try now tries then Recent else Take
 
+-- The verdict on a peer to connect to: an open peer of its group rules it out, and else a try that
+-- is too recent.
 abbrev pub judge : List Outbound → List ℕ → ℕ → ℕ → ℕ → Verdict
 judge open_peers group last_try now tries =
     if has_group group open_peers then SameGroup else judge_feeler last_try now tries

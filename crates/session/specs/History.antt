@@ -22,6 +22,7 @@ pub record History : Type 0 where
 abbrev pub fresh : SessionState → History
 fresh st = record { now = st; ended = [] }
 
+-- The saves that have ended, with one more before them if there is one.
 abbrev pub onto : Option Ended → List Ended → List Ended
 onto None ended = ended
 onto (Some one) ended = one ∷ ended
