@@ -29,9 +29,10 @@ abbrev pub occupant_at : View → Bool → ℕ → ℕ → Option Rec
 occupant_at view true bucket slot = view.new bucket slot
 occupant_at view false bucket slot = view.tried bucket slot
 
--- how many records of the new table, and of the tried table, are of networks of a set
+-- The number of records of the new table that are of networks of a set.
 abbrev pub wanted_new : View → List ℕ → ℕ
 wanted_new view nets = count_by (λ r. not (is_tried r) && is_wanted nets r) view.records
 
+-- The number of records of the tried table that are of networks of a set.
 abbrev pub wanted_tried : View → List ℕ → ℕ
 wanted_tried view nets = count_by (λ r. is_tried r && is_wanted nets r) view.records
