@@ -14,6 +14,7 @@ Files are in the current folder. In that of a running node use no replay, from-r
 ban or unban: they replace its files. `addrman help COMMAND` says more of a command.
 ";
 
+/// The page of `replay`.
 pub(crate) const REPLAY: Page = (
     "replay [--key HEX64] [--net CHAIN] [--core]",
     "carries out the log on standard input, over the tables of peers.dat",
@@ -31,6 +32,7 @@ Codes    0 done, 2 bad usage, 3 a line has an error, 4 peers.dat is refused,
 ",
 );
 
+/// The page of `opener`.
 pub(crate) const OPENER: Page = (
     "opener [--key HEX64] [--net CHAIN] [--core] [--exempt NETS] [--services N] \
      [--skip-bad-ports]",
@@ -54,6 +56,7 @@ Codes    0 done, 2 bad usage, 3 a line has an error, 4 peers.dat is refused,
 ",
 );
 
+/// The page of `limit`.
 pub(crate) const LIMIT: Page = (
     "limit",
     "reads what many connections sent, and prints the log that the limit on received \
@@ -67,6 +70,7 @@ Codes    0 done, 2 bad usage, 3 a line has an error, 7 the log cannot be read,
 ",
 );
 
+/// The page of `show`.
 pub(crate) const SHOW: Page = (
     "show [--anchors] [--net CHAIN] [--no-key] [--core]",
     "lists the key and the records of peers.dat",
@@ -85,6 +89,7 @@ Codes    0 done, 2 bad usage, 4 peers.dat is refused, 8 the output cannot be wri
 ",
 );
 
+/// The page of `picture`.
 pub(crate) const PICTURE: Page = (
     "picture [--by HOW] [--net CHAIN] [--core|--raw -] [--mark SET..]",
     "draws the tables of peers.dat, an SVG",
@@ -109,6 +114,7 @@ Codes    0 done, 2 bad usage, 4 peers.dat is refused, 5 asmap.dat is refused, 7 
 ",
 );
 
+/// The page of `raw`.
 pub(crate) const RAW: Page = (
     "raw [--net CHAIN] [--core]",
     "prints the records of peers.dat by the slots that they are in, as JSON",
@@ -125,6 +131,7 @@ Codes    0 done, 2 bad usage, 4 peers.dat is refused, 5 asmap.dat is refused,
 ",
 );
 
+/// The page of `info`.
 pub(crate) const INFO: Page = (
     "info [--net CHAIN] [--core|--raw -]",
     "prints how many records of peers.dat each network has, as JSON",
@@ -143,6 +150,7 @@ Codes    0 done, 2 bad usage, 4 peers.dat is refused, 5 asmap.dat is refused, 7 
 ",
 );
 
+/// The page of `groups`.
 pub(crate) const GROUPS: Page = (
     "groups [--net CHAIN] [--core|--raw -]",
     "prints how much of peers.dat each group has, as JSON",
@@ -163,6 +171,7 @@ Codes    0 done, 2 bad usage, 4 peers.dat is refused, 5 asmap.dat is refused, 7 
 ",
 );
 
+/// The page of `risk`.
 pub(crate) const RISK: Page = (
     "risk source|peer|network|- [--net CHAIN] [--core|--raw -]",
     "prints which part of the picks from peers.dat falls to each group, at most",
@@ -194,6 +203,7 @@ Codes    0 done, 2 bad usage, 3 a line has an error, 4 peers.dat is refused,
 ",
 );
 
+/// The page of `from-raw`.
 pub(crate) const FROM_RAW: Page = (
     "from-raw --key HEX64 [--net CHAIN] [--core]",
     "makes a peers.dat of what raw or getrawaddrman printed",
@@ -213,6 +223,7 @@ Codes    0 done, 2 bad usage, 5 asmap.dat is refused, 7 the log cannot be read, 
 ",
 );
 
+/// The page of `compile`.
 pub(crate) const COMPILE: Page = (
     "compile",
     "compiles prefixes.txt into asmap.dat",
@@ -224,6 +235,7 @@ Codes    0 done, 2 bad usage, 6 prefixes.txt is refused, 8 the output cannot be
 ",
 );
 
+/// The page of `decompile`.
 pub(crate) const DECOMPILE: Page = (
     "decompile",
     "prints the table of prefixes that asmap.dat encodes",
@@ -237,6 +249,7 @@ Codes    0 done, 2 bad usage, 5 asmap.dat is refused, 8 the output cannot be wri
 ",
 );
 
+/// The page of `diff`.
 pub(crate) const DIFF: Page = (
     "diff [--peers [--net CHAIN] [--core]]",
     "prints the prefixes whose AS number differs between asmap.old and asmap.dat",
@@ -256,6 +269,7 @@ Codes    0 done, 2 bad usage, 4 peers.dat is refused, 5 asmap.dat is refused,
 ",
 );
 
+/// The page of `check`.
 pub(crate) const CHECK: Page = (
     "check",
     "checks that asmap.dat is sane",
@@ -268,6 +282,7 @@ Codes    0 done, 2 bad usage, 5 asmap.dat is refused, 8 the output cannot be wri
 ",
 );
 
+/// The page of `lookup`.
 pub(crate) const LOOKUP: Page = (
     "lookup PEER|-",
     "prints the AS number and the group of an address, or of each on standard input",
@@ -284,6 +299,7 @@ Codes    0 done, 2 bad usage, 3 a line has an error, 5 asmap.dat is refused, 7 t
 ",
 );
 
+/// The page of `address`.
 pub(crate) const ADDRESS: Page = (
     "address TEXT|-",
     "prints what is known of an address",
@@ -301,6 +317,7 @@ Codes    0 done, 2 bad usage, 3 a line has an error, 5 asmap.dat is refused, 7 t
 ",
 );
 
+/// The page of `ban`.
 pub(crate) const BAN: Page = (
     "ban SUBNET NOW UNTIL [--core]",
     "bans a subnet in banlist.json until a time",
@@ -318,6 +335,7 @@ Codes    0 done, 2 bad usage, 8 the output cannot be written, 9 the folder faile
 ",
 );
 
+/// The page of `unban`.
 pub(crate) const UNBAN: Page = (
     "unban SUBNET [--core]",
     "takes a ban out of banlist.json",
@@ -332,6 +350,7 @@ Codes    0 done, 2 bad usage, 8 the output cannot be written, 9 the folder faile
 ",
 );
 
+/// The page of `banned`.
 pub(crate) const BANNED: Page = (
     "banned PEER NOW [--core]",
     "prints the ban that covers an address, or `free`",
@@ -349,6 +368,7 @@ Codes    0 done, 2 bad usage, 8 the output cannot be written, 9 the folder faile
 ",
 );
 
+/// The page of `bans`.
 pub(crate) const BANS: Page = (
     "bans NOW [--core]",
     "prints the bans that are not over, as JSON",
@@ -365,6 +385,7 @@ Codes    0 done, 2 bad usage, 8 the output cannot be written, 9 the folder faile
 ",
 );
 
+/// The page of `gen`.
 pub(crate) const GEN: Page = (
     "gen START LINES",
     "prints a generated log",
@@ -377,6 +398,7 @@ Codes    0 done, 2 bad usage, 8 the output cannot be written, 12 out of memory.
 ",
 );
 
+/// The page of `trial`.
 pub(crate) const TRIAL: Page = (
     "trial START LINES",
     "carries out a generated log, and prints a summary of its replies",
@@ -390,6 +412,7 @@ Codes    0 done, 2 bad usage, 8 the output cannot be written, 12 out of memory.
 ",
 );
 
+/// The page of `help`.
 pub(crate) const HELP: Page = (
     "help [COMMAND]",
     "lists the commands, or explains one",
@@ -400,6 +423,7 @@ Codes    0 done, 2 bad usage, 8 the output cannot be written, 12 out of memory.
 ",
 );
 
+/// The page of `version`.
 pub(crate) const VERSION: Page = (
     "version",
     "prints the version and the toolchain",
