@@ -28,6 +28,8 @@ pub fn groups_add_up()
 
 /// The groups of the text are those of the sources in the records of the new table and of the peers
 /// in those of the tried one, each once.
+///
+/// The text has one object for each of these groups, and no other object.
 pub fn groups_are_listed()
     ensures { (view : View) → ListsGroups view }
 {}

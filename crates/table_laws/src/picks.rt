@@ -12,6 +12,8 @@ ghost use Rattle.table_machine.specs.Sound.{IsSound};
 ghost use Rattle.table_machine.specs.State.{State};
 
 /// Of the n slots that a round may begin at, exactly `gap` lead to the slot.
+///
+/// This holds for any n, and whatever is in the slots.
 pub fn rounds_are_counted()
     ensures { (at : ℕ → Option ℕ) (wanted picked : ℕ → Bool) (n slot : ℕ) → slot < n →
         holds wanted (at slot) ≡ true → holds picked (at slot) ≡ true →
@@ -24,6 +26,10 @@ pub fn rounds_are_counted()
 /// Of the triples of residues that the words of a round can have, so many select a record: for
 /// each bucket of the record, as many starts as lead to its slot, times the words that accept it.
 /// One of several records is selected by as many as all of them are together.
+///
+/// In `new` and `tried`, a round finds the record from its own slot and from the slots right before
+/// it, going round, that have no candidate. By `some`, anybody's share of a round's triples is the
+/// sum of these products over their records.
 pub fn picks_are_counted()
     ensures new { (st : State) (nets : List ℕ) (now factor : ℕ) (r : Rec) → IsSound st →
         Contains st.records r → is_wanted nets r ≡ true →

@@ -14,6 +14,9 @@ ghost use Rattle.table_machine.specs.State.{State};
 /// Of the lists of n + 1 rounds' words, so many end a search of one table at a record: those of
 /// which the first round selects it; and of those of which the first round has no candidate, or
 /// refuses its candidate, as many as the n others end there, after a refusal with the factor grown.
+///
+/// A round without a candidate uses two words, and is counted with each third residue. A refusal
+/// lets the factor grow by a fifth.
 pub fn searches_are_counted()
     ensures none { (st : State) (in_new : Bool) (nets : List ℕ) (now factor : ℕ) (peer : Peer) →
         ending_lists st in_new nets now factor peer 0 ≡ 0 }
@@ -31,6 +34,9 @@ pub fn searches_are_counted()
 
 /// Of all rounds, those of the buckets without a candidate are idle. Of the others, those that do
 /// not select their candidate refuse it.
+///
+/// So the refusals are all triples without those of empty buckets (`idle`) and those that select
+/// some record (`all`).
 pub fn rounds_are_of_three_kinds()
     ensures idle { (st : State) (in_new : Bool) (nets : List ℕ) →
         idle_rounds st in_new nets
@@ -47,6 +53,13 @@ pub fn rounds_are_of_three_kinds()
 /// those that pass another, they have at most that part of the searches, over however many rounds.
 /// And if at no factor more than a bound's triples select somebody's records, their part of all
 /// searches that end is at most the bound's part of the triples that select a record at first.
+///
+/// `bound`: if at every factor at most M triples select somebody's records, and at the first factor
+/// T triples select some record, at most M / T of the lists of n rounds that end a search of this
+/// table end it at theirs, for each n. `part` says more exactly that a part of the selecting
+/// triples at each factor is a bound on the part of the searches, and `some` that the searches that
+/// end at several records follow the recursion of those that end at one. With empty buckets T is
+/// smaller than all triples, so the share of picks is larger than that of a round.
 pub fn searches_share_alike()
     ensures some { (st : State) (in_new : Bool) (nets : List ℕ) (now factor n : ℕ)
         (test : Rec → Bool) → IsSound st →

@@ -23,6 +23,11 @@ use risk_tries::tries_are_bounded;
 /// most the part that its row says, in parts of a million: from both tables, or from the new one
 /// only. A search of the tried table ends at one for at most the part `tried`. If the tables know
 /// of no try, the text is the same at any time from 600 seconds since 1970 on.
+///
+/// The set is any that has, of the tables' peers, just those of the group (`AreOfGroup`): by the
+/// group of the source that announced them first, by their own, or by their network. `risk_text`
+/// computes the rows from the slots of a view; the law is about the view of a state, whose slots
+/// have as many starts of each chance as its records do.
 pub fn rows_are_bounds()
     ensures picks { (st : State) (by : By) (g : List ℕ) (now first n : ℕ) (theirs : Peer → Bool) →
         IsSound st → AreOfGroup st by g theirs →
