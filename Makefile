@@ -174,26 +174,27 @@ lib:
 # The calls that close take NULL too, and what is freed is wiped, by bindings/edges.c.
 CLOSES := addrman_close addrman_save_close addrman_bans_close addrman_limiter_close addrman_answers_close
 
-# One object, with the allocator in it and only addrman_* to be seen.
+# One object, with the allocator in it and only addrman_* to be seen. BUILT is the folder for the library.
+BUILT ?= bin/lib
 OBJECTS ?= --whole-archive crates/addrman_c/out/libaddrman_c.a $(KIT)/c/liblibc_c.a
 
 archive:
-	mkdir -p bin/lib
-	ld -r -o bin/lib/proved.o $(OBJECTS)
+	mkdir -p $(BUILT)
+	ld -r -o $(BUILT)/proved.o $(OBJECTS)
 	objcopy --strip-unneeded --remove-section=.llvmbc --remove-section=.llvmcmd \
 		--keep-section=.debug_frame --keep-section=.rela.debug_frame \
 		--redefine-sym free=wiping_free --redefine-sym realloc=wiping_realloc \
-		$(foreach it,$(CLOSES),--redefine-sym $(it)=proved_$(it)) bin/lib/proved.o
-	gcc -std=gnu99 -O2 -fPIC $(SANITIZER) $(CPPFLAGS) $(CFLAGS) -Wall -Wextra -DADDRMAN_VERSION='"$(VERSION)"' -c -o bin/lib/edges.o \
-		bindings/edges.c
-	ld -r -o bin/lib/addrman.o bin/lib/proved.o bin/lib/edges.o
-	objcopy --wildcard --keep-global-symbol='addrman_*' bin/lib/addrman.o
-	rm -f bin/lib/libaddrman.a
-	ar rcs bin/lib/libaddrman.a bin/lib/addrman.o
-	gcc -shared $(SANITIZER) $(LDFLAGS) -o bin/lib/libaddrman.so.1 -Wl,-soname,libaddrman.so.1 -Wl,-z,defs -Wl,-z,now \
-		-Wl,-z,relro -Wl,--version-script=bindings/addrman.map bin/lib/addrman.o
-	ln -sf libaddrman.so.1 bin/lib/libaddrman.so
-	rm bin/lib/addrman.o bin/lib/proved.o bin/lib/edges.o
+		$(foreach it,$(CLOSES),--redefine-sym $(it)=proved_$(it)) $(BUILT)/proved.o
+	gcc -std=gnu99 -O2 -fPIC $(SANITIZER) $(CPPFLAGS) $(CFLAGS) -Wall -Wextra \
+		-DADDRMAN_VERSION='"$(VERSION)"' -c -o $(BUILT)/edges.o bindings/edges.c
+	ld -r -o $(BUILT)/addrman.o $(BUILT)/proved.o $(BUILT)/edges.o
+	objcopy --wildcard --keep-global-symbol='addrman_*' $(BUILT)/addrman.o
+	rm -f $(BUILT)/libaddrman.a
+	ar rcs $(BUILT)/libaddrman.a $(BUILT)/addrman.o
+	gcc -shared $(SANITIZER) $(LDFLAGS) -o $(BUILT)/libaddrman.so.1 -Wl,-soname,libaddrman.so.1 -Wl,-z,defs -Wl,-z,now \
+		-Wl,-z,relro -Wl,--version-script=bindings/addrman.map $(BUILT)/addrman.o
+	ln -sf libaddrman.so.1 $(BUILT)/libaddrman.so
+	rm $(BUILT)/addrman.o $(BUILT)/proved.o $(BUILT)/edges.o
 
 lib-test: bin/addrman lib
 	tools/lib_test

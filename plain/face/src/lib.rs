@@ -103,3 +103,6 @@ pub use peer_rec::{Counts, Good, Resolved};
 pub use peers_file::{Chain, FileFault, RecordCause, Which};
 pub use prefix_table::TableFault;
 pub use risk_parts::Parts;
+
+/// The tables hold at most this number of records: one for each slot.
+pub const MAX_RECORDS: usize = slot_grid::ALL_SLOTS;

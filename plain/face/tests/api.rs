@@ -228,7 +228,9 @@ fn a_folder_keeps_the_tables() {
         peers.save(&folder, Chain::Main),
         Err(SaveError::Io(_))
     ));
-    assert!(AddrMan::load(&folder, Chain::Main, None).unwrap().is_none());
+    let missing = |error: &std::io::Error| error.kind() == std::io::ErrorKind::NotFound;
+    let read = AddrMan::load(&folder, Chain::Main, None);
+    assert!(matches!(read, Err(LoadError::Folder(error)) if missing(&error)));
 }
 
 #[cfg(unix)]
@@ -297,7 +299,8 @@ fn a_folder_keeps_the_bans() {
     assert!(matches!(bans.save(&folder), Err(SaveError::Io(_))));
     std::fs::remove_dir_all(&folder).unwrap();
     assert!(matches!(bans.save(&folder), Err(SaveError::Io(_))));
-    assert!(Bans::load(&folder).unwrap().is_none());
+    let missing = |error: &std::io::Error| error.kind() == std::io::ErrorKind::NotFound;
+    assert!(matches!(Bans::load(&folder), Err(BansError::Folder(error)) if missing(&error)));
 }
 
 /// The asmap of Bitcoin Core's own tests, whose checksum its functional test feature_asmap.py
