@@ -32,6 +32,7 @@
 # make uninstall  removes what make install copies, with the same variables
 # make dist       packs program, documents, bindings, examples and vectors as
 #                 bin/addrman-VERSION-x86_64-linux.tar.gz
+# make release    builds all that a release has in two folders, compares, and keeps bin/release
 
 PREFIX ?= /usr/local
 BINDIR ?= $(PREFIX)/bin
@@ -50,7 +51,7 @@ KIT = $(shell dirname "$$(dirname "$$(readlink -f "$$(command -v rt)")")")
 
 .PHONY: all plain check proved package plain-lib plain-archive sanitized-lib bench try ci-try demo examples \
 	flood page page-test endings mistakes packed test figures lib lib-test ci-lib-test ci-program-test \
-	archive install install-lib uninstall dist
+	archive install install-lib uninstall dist release
 
 # Where cargo builds, below bin/.
 CARGO = cd bin/plain && cargo build --quiet --release --target-dir ../target
@@ -264,3 +265,6 @@ dist: bin/addrman
 		-o -type d -exec chmod 755 {} +
 	tar -C bin --owner=0 --group=0 --sort=name --mtime=@0 -czf bin/$(DIST).tar.gz $(DIST)
 	rm -r bin/$(DIST)
+
+release:
+	tools/release

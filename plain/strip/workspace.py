@@ -1,4 +1,5 @@
 """Writes the crates of a checkout as a Cargo workspace."""
+import json
 import os
 import re
 import shutil
@@ -271,12 +272,18 @@ def read_workspace(root):
     return files, counts_of(everything)
 
 
+def without_paths(out):
+    """Cargo's settings by which no path of this machine stands in what is built."""
+    home = os.environ.get('CARGO_HOME') or os.path.expanduser('~/.cargo')
+    names = {os.path.abspath(out): 'addrman', REGISTRY: 'registry', os.path.join(home, 'registry', 'src'): 'registry'}
+    flags = ['--remap-path-prefix=%s=/usr/src/%s' % pair for pair in names.items()]
+    return '[build]\nrustflags = %s\n\n' % json.dumps(flags)
+
+
 def write_out(root, out, files):
     """Writes files, and where cargo finds the registry's crates."""
-    if has_packages(versions_of(os.path.join(root, 'plain'))[1]):
-        files['.cargo/config.toml'] = FROM_PACKAGES
-    elif os.path.exists(os.path.join(out, '.cargo', 'config.toml')):
-        os.remove(os.path.join(out, '.cargo', 'config.toml'))
+    found = has_packages(versions_of(os.path.join(root, 'plain'))[1])
+    files['.cargo/config.toml'] = without_paths(out) + (FROM_PACKAGES if found else '')
     write_files(out, files)
 
 
