@@ -57,10 +57,12 @@ KIT = $(shell dirname "$$(dirname "$$(readlink -f "$$(command -v rt)")")")
 CARGO = cd bin/plain && cargo build --quiet --release --target-dir ../target
 
 all: plain
+	@tools/needs crates
 	$(CARGO) -p addrman
 	cp bin/target/release/addrman bin/addrman
 
 plain:
+	@tools/needs programs
 	tools/plain bin/plain > /dev/null
 
 check:

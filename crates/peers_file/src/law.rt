@@ -1,8 +1,15 @@
-//! The law that a file has one meaning.
+//! The law that a file has one meaning, and the limit as a number.
 
-ghost use Rattle.std.specs.Prelude.{ℕ, ◌<◌, List, All};
+ghost use Rattle.std.specs.Prelude.{◌≡◌, ℕ, ◌<◌, List, All};
 ghost use Rattle.peers_file.specs.Layout.{HasOneMeaning};
 ghost use Rattle.peers_file.specs.declared.chain.Chain.{Chain};
+
+use crate::MAX_FILE;
+
+/// The most bytes that a file may have.
+pub fn limits()
+    ensures { MAX_FILE ≡ 33554432 }
+{}
 
 /// For every chain, a list of bytes is the file of exactly one snapshot or has exactly one fault,
 /// and never both.
