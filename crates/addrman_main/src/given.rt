@@ -175,7 +175,7 @@ impl<'a> Given<'a> {
             return Ok(());
         }
         if anchors_options(rest) > 1 {
-            return self.refuse(alloc, Name::Peers, "it comes twice");
+            return self.refuse(alloc, Name::Peers, "given twice");
         }
         if self.paths.peers.is_none() {
             self.paths.peers = Some(ANCHORS);
@@ -229,9 +229,9 @@ impl<'a> Given<'a> {
     /// Refuses `--peers`, since something else is read in the place of peers.dat.
     fn refuse_peers(&mut self, alloc: Global) -> Result<Next, AllocError> {
         let why = if self.paths.has_anchors {
-            "--peers: --anchors reads another file"
+            "--peers: cannot be combined with --anchors"
         } else {
-            "--peers: --raw - reads standard input"
+            "--peers: cannot be combined with --raw -"
         };
         self.hint = String::from_str(alloc, why)?;
         self.add(alloc, NO_ARGUMENT)?;
@@ -263,7 +263,7 @@ impl<'a> Given<'a> {
         if path.is_empty() || path == "-" {
             self.refuse(alloc, name, "expected a file")?;
         } else if self.paths.of(name).is_some() {
-            self.refuse(alloc, name, "it comes twice")?;
+            self.refuse(alloc, name, "given twice")?;
         } else {
             match name {
                 Name::Peers => self.paths.peers = Some(path),
@@ -297,7 +297,7 @@ impl<'a> Given<'a> {
         if path == "-" {
             self.hint = String::from_str(
                 alloc,
-                "--key-file: expected a file; standard input has the log",
+                "--key-file: expected a file, not standard input, which has the log",
             )?;
             return self.add(alloc, "--key-file");
         }

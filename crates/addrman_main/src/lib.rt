@@ -89,7 +89,7 @@ fn line_of(alloc: Global, status: &Status) -> String {
 fn without_folder(alloc: Global, folder: &str, error: io::Error) -> Ended {
     let status = Status::DiskFault;
     let mut text = line_of(alloc, &status);
-    if let Ok(line) = format!(in alloc; "addrman: {folder} cannot be entered: {error}\n") {
+    if let Ok(line) = format!(in alloc; "addrman: cannot change to {folder}: {error}\n") {
         let _ = text.push_str(line.as_str());
     }
     Ended::with(&status, text)

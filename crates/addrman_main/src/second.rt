@@ -64,10 +64,7 @@ fn put_lines(
     }
     if !matches!(status, Status::PeersRefused(_)) {
         if facts.learned.is_key_unused() {
-            put_line(
-                "the key of the arguments is not used: peers.dat has its own",
-                text,
-            )?;
+            put_line("the key given is not used: peers.dat has its own", text)?;
         }
         let hint = sum_hint(alloc, facts.learned)?;
         put_line(hint.as_str(), text)?;
@@ -128,10 +125,10 @@ fn hint_of(alloc: Global, status: &Status, facts: &Facts<'_>) -> Result<String, 
 fn fixed_hint(status: &Status) -> &'static str {
     match status {
         Status::NoKey =>
-            "the current folder has no peers.dat: give --key and 64 hexadecimal digits",
+            "there is no peers.dat in the current directory: give --key-file FILE or --key HEX64",
         Status::LineTooLong { .. } => "a line has at most 2000000 bytes",
         Status::LogTooLong => "a log has at most 1073741824 bytes",
-        Status::TooManyRows => "compile takes no more rows either",
+        Status::TooManyRows => "compile does not accept more rows either",
         _ => "",
     }
 }
@@ -172,23 +169,26 @@ fn sum_hint(alloc: Global, learned: &Learned) -> Result<String, AllocError> {
     if said.is_empty() || count == 0 {
         return String::from_str(alloc, said);
     }
-    format!(in alloc; "{said}; left out: {count}")
+    format!(in alloc; "{said}; records left out: {count}")
 }
 
 /// Returns how the checksum of an asmap in peers.dat fits, or nothing if it is the same.
 fn fit_text(fit: SumFit) -> &'static str {
     match fit {
         SumFit::Same => "",
-        SumFit::Core => "peers.dat was written by Bitcoin Core under this asmap: use --core, \
-             else its new records are placed anew",
-        SumFit::Own => "peers.dat was written by addrman under this asmap: leave out --core, \
-             else its new records are placed anew",
+        SumFit::Core =>
+            "peers.dat was written by Bitcoin Core with this asmap: use --core, or its new \
+             records are re-bucketed",
+        SumFit::Own =>
+            "peers.dat was written by addrman with this asmap: leave out --core, or its new \
+             records are re-bucketed",
         SumFit::NoneThen =>
-            "peers.dat was written without an asmap: its new records are placed anew",
-        SumFit::NoneNow => "peers.dat was written under an asmap, and asmap.dat is missing: \
-             its new records are placed anew",
+            "peers.dat was written without an asmap: its new records are re-bucketed",
+        SumFit::NoneNow =>
+            "peers.dat was written with an asmap, and asmap.dat is missing: its new records are \
+             re-bucketed",
         SumFit::Other =>
-            "peers.dat was written under another asmap: its new records are placed anew",
+            "peers.dat was written with another asmap: its new records are re-bucketed",
     }
 }
 
@@ -199,12 +199,12 @@ fn passed_over_hint(alloc: Global, learned: &Learned) -> Result<String, AllocErr
         return Ok(String::new(alloc));
     }
     let after_save = if learned.is_rest_kept() {
-        "which a save keeps"
+        "kept by a save"
     } else {
-        "which a save leaves out"
+        "dropped by a save"
     };
     let form = "a ban has version 1, a subnet and two times";
-    format!(in alloc; "elements of banlist.json passed over, {after_save}: {count}; {form}")
+    format!(in alloc; "elements of banlist.json skipped, {after_save}: {count}; {form}")
 }
 
 /// Returns what is said of the saves, if some failed.

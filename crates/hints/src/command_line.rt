@@ -31,7 +31,7 @@ fn is_flag(form: &str, word: &str) -> bool {
 const ANCHORS_FORM: &str = "show --anchors [--net CHAIN]";
 
 /// What is said of `risk -` with `--raw -`.
-const ONE_INPUT: &str = "risk -: not beside --raw -, since standard input has the listing";
+const ONE_INPUT: &str = "risk - cannot be combined with --raw -: both read standard input";
 
 /// Returns how many of the arguments after `risk` are `--core` and `--raw -`, which are before what
 /// makes records one group.
@@ -110,7 +110,7 @@ fn picture_hint(alloc: Global, form: &'static str, words: &[String]) -> Result<S
     if has_by(options) {
         return String::from_str(
             alloc,
-            "--mark: not beside --by, since colours have one meaning",
+            "--mark cannot be combined with --by: both choose the colours",
         );
     }
     let sets = words.get(index.saturating_add(1)..).unwrap_or(&[]);
@@ -125,7 +125,7 @@ fn picture_hint(alloc: Global, form: &'static str, words: &[String]) -> Result<S
     }
     if sets.len() > MAX_MARKS {
         return format!(in alloc;
-            "--mark: there are at most {MAX_MARKS} sets, not {}",
+            "--mark: at most {MAX_MARKS} sets are allowed, not {}",
             sets.len()
         );
     }
@@ -216,19 +216,19 @@ pub fn usage_hint(alloc: Global, words: &[String]) -> Result<String, AllocError>
     let Some((command, rest)) = words.split_first() else {
         return String::from_str(
             alloc,
-            "expected a command, as in addrman lookup 1.2.3.4:8333",
+            "expected a command, for example addrman lookup 1.2.3.4:8333",
         );
     };
     if command.as_str().starts_with("-") {
         return String::from_str(
             alloc,
-            "expected [-C DIR] COMMAND before other options, as in addrman show --net CHAIN",
+            "expected [-C DIR] COMMAND before other options, for example addrman show --net CHAIN",
         );
     }
     if let Some(form) = Reader::Arguments.find_form(command.as_bytes()) {
         if let Some(option) = rare_option(form, rest) {
             return format!(in alloc;
-                "{} is no option of {}, but of {}",
+                "{} is not an option of {}, only of {}",
                 option.flag,
                 command.as_str(),
                 option.commands

@@ -16,7 +16,7 @@ pub fn failure_hint(
     if is_in_use {
         return String::from_str(
             alloc,
-            "the folder is in use: another program is saving there",
+            "the directory is in use: another program is saving there",
         );
     }
     let name = match failure.name {
@@ -24,7 +24,7 @@ pub fn failure_hint(
         None => "the folder",
     };
     if failure.error.kind() == ErrorKind::InvalidInput {
-        return format!(in alloc; "{name} is no regular file");
+        return format!(in alloc; "{name} is not a regular file");
     }
     format!(in alloc;
         "{name} cannot be {}: {}",
@@ -48,7 +48,9 @@ fn past_of(tried: Tried) -> &'static str {
 /// Says why a standard stream failed: `input` or `output`.
 pub fn stream_hint(alloc: Global, stream: &str, error: io::Error) -> Result<String, AllocError> {
     match error.kind() {
-        ErrorKind::IsADirectory => { format!(in alloc; "standard {stream} is a folder, or closed") }
+        ErrorKind::IsADirectory => {
+            format!(in alloc; "standard {stream} is a directory, or closed")
+        }
         _ => format!(in alloc; "standard {stream}: {error}"),
     }
 }

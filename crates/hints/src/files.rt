@@ -85,8 +85,9 @@ pub(crate) fn is_marked(text: &[u8]) -> bool {
 }
 
 /// Where a file of anchors comes from.
-const NO_ANCHORS: &str = "it has to be in the current folder: a node writes it when it stops, and \
-                          removes it when it starts; or --anchors FILE is read";
+const NO_ANCHORS: &str =
+    "it must be in the current directory: a node writes it when it stops and removes it when it \
+     starts; or name another file with --anchors FILE";
 
 /// Says why an asmap is refused, which begins with these bytes.
 pub fn asmap_hint(alloc: Global, fault: &CodeFault, head: &[u8]) -> Result<String, AllocError> {
@@ -95,11 +96,11 @@ pub fn asmap_hint(alloc: Global, fault: &CodeFault, head: &[u8]) -> Result<Strin
     }
     match fault {
         CodeFault::TooLarge { size } => {
-            format!(in alloc; "an asmap has at most {MAX_ASMAP} bytes, not {size}")
+            format!(in alloc; "it has {size} bytes; an asmap has at most {MAX_ASMAP}")
         }
         CodeFault::Insane => String::from_str(
             alloc,
-            "it is no asmap, or a part of one: addrman compile makes one from prefixes.txt",
+            "it is not an asmap, or only part of one: addrman compile makes one from prefixes.txt",
         ),
     }
 }
@@ -108,10 +109,10 @@ pub fn asmap_hint(alloc: Global, fault: &CodeFault, head: &[u8]) -> Result<Strin
 pub fn compile_hint(alloc: Global, fault: &CompileFault) -> Result<String, AllocError> {
     match fault {
         CompileFault::Empty => {
-            String::from_str(alloc, "it has no row: a row is as 1.2.0.0/16 AS6")
+            String::from_str(alloc, "it has no rows: a row looks like 1.2.0.0/16 AS6")
         }
         CompileFault::TooLarge { bits } => {
-            format!(in alloc; "an asmap has at most {MAX_BITS} bits, not {bits}")
+            format!(in alloc; "it compiles to {bits} bits; an asmap has at most {MAX_BITS}")
         }
         CompileFault::Memory => Ok(String::new(alloc)),
     }
@@ -122,11 +123,11 @@ pub fn bans_hint(alloc: Global, fault: &BanFault, text: &[u8]) -> Result<String,
     match fault {
         BanFault::Json => json_hint(alloc, text, "an empty list is {\"banned_nets\":[]}"),
         BanFault::Form => {
-            String::from_str(alloc, "it is no object with an array under banned_nets")
+            String::from_str(alloc, "expected an object with an array named banned_nets")
         }
-        BanFault::TooMany => format!(in alloc; "there are at most {MAX_BANS} bans"),
+        BanFault::TooMany => format!(in alloc; "it has more than {MAX_BANS} bans"),
         BanFault::TooLarge { size } => {
-            format!(in alloc; "there are at most {MAX_FILE} bytes, not {size}")
+            format!(in alloc; "it has {size} bytes; at most {MAX_FILE} are allowed")
         }
         BanFault::Memory => Ok(String::new(alloc)),
     }
@@ -143,7 +144,7 @@ pub(crate) fn json_hint(alloc: Global, text: &[u8], expected: &str) -> Result<St
     match Value::from_slice(alloc, text) {
         Err(error) => {
             let (line, column) = (error.line(), error.column());
-            format!(in alloc; "line {line}, column {column}: no JSON; {expected}")
+            format!(in alloc; "line {line}, column {column}: not JSON; {expected}")
         }
         Ok(_) => Ok(String::new(alloc)),
     }
@@ -156,16 +157,16 @@ pub fn missing_hint(alloc: Global, name: Name, paths: &Paths<'_>) -> Result<Stri
         if path == replaced {
             return String::from_str(alloc, NO_ANCHORS);
         }
-        return format!(in alloc; "{path} is missing: it is read in the place of {replaced}");
+        return format!(in alloc; "{path} is missing: it was given instead of {replaced}");
     }
     let text = match name {
         Name::Asmap =>
-            "addrman compile makes it from prefixes.txt of the current folder, or --asmap FILE is \
-             read",
-        Name::AsmapOld => "it has to be in the current folder: the asmap of before",
-        Name::Prefixes => "it has to be in the current folder, with rows as 1.2.0.0/16 AS6",
-        _ => "it has to be in the current folder: copy that of a node which does not run, \
-              or --peers FILE is read",
+            "make it with addrman compile from prefixes.txt in the current directory, or name \
+             another file with --asmap FILE",
+        Name::AsmapOld => "it must be in the current directory: the previous asmap",
+        Name::Prefixes => "it must be in the current directory, with rows such as 1.2.0.0/16 AS6",
+        _ => "it must be in the current directory: copy it from a stopped node, or name another \
+             file with --peers FILE",
     };
     String::from_str(alloc, text)
 }
@@ -174,7 +175,7 @@ pub fn missing_hint(alloc: Global, name: Name, paths: &Paths<'_>) -> Result<Stri
 pub fn place_hint(alloc: Global, name: Name, paths: &Paths<'_>) -> Result<String, AllocError> {
     match paths.of(name) {
         Some(path) if path != paths.replaced(name) => {
-            format!(in alloc; "{path} is read in the place of {}", paths.replaced(name))
+            format!(in alloc; "{path} is read instead of {}", paths.replaced(name))
         }
         _ => Ok(String::new(alloc)),
     }

@@ -47,7 +47,7 @@ pub fn line_hint(
 
 /// What is said of a set of addresses.
 pub(crate) const SET: &str =
-    "a prefix, as 1.2.0.0/16 or 2001:470::/32, an address, or an AS number, as AS64500";
+    "a prefix such as 1.2.0.0/16 or 2001:470::/32, an address, or an AS number such as AS64500";
 
 /// Says what is wrong with a text that is that of no set of addresses.
 pub(crate) fn set_text(alloc: Global, text: &[u8]) -> Result<String, AllocError> {

@@ -81,10 +81,10 @@ impl Name {
             Name::Net => "main, test, testnet4, signet or regtest",
             Name::Magic => "8 hexadecimal digits",
             Name::Core | Name::SkipBadPorts => "",
-            Name::Raw => "-, which is standard input",
+            Name::Raw => "- (standard input)",
             Name::By => "network, source, group or age",
             Name::Exempt => {
-                "all, or some of ipv4, ipv6, onion, i2p, cjdns and internal, as ipv4,onion"
+                "all, or some of ipv4, ipv6, onion, i2p, cjdns and internal, such as ipv4,onion"
             }
             Name::Services => "a number below 2^64",
         }
@@ -97,7 +97,7 @@ impl Name {
 }
 
 /// What is said of `--core` and `--raw -` together.
-const NO_SUM: &str = "--core: not beside --raw, since a listing has no checksum";
+const NO_SUM: &str = "--core cannot be combined with --raw: a listing has no checksum";
 
 /// Says which of the arguments after the name of a command is wrong. After the name its form has
 /// only options.
@@ -127,7 +127,7 @@ pub(crate) fn wrong_option(
         let name = given.name;
         if pending.is_none() {
             if names.contains(&name) {
-                return Ok(Some(format!(in alloc; "{} comes twice", name.text())?));
+                return Ok(Some(format!(in alloc; "{} is given twice", name.text())?));
             }
             names.push(name)?;
         }
@@ -244,10 +244,10 @@ fn is_hex(text: &str) -> bool {
 /// Returns what is wrong with a key besides its length.
 fn key_error(digits: &str) -> Option<&'static str> {
     if digits.starts_with("0x") {
-        return Some(", and a key has no 0x");
+        return Some("; leave out the 0x");
     }
     if !is_hex(digits) {
-        return Some(", and not all are such digits");
+        return Some(", not all of them hexadecimal digits");
     }
     if digits.len() != KEY_DIGITS {
         return Some("");
@@ -261,7 +261,9 @@ fn no_option(alloc: Global, form: &'static str, word: &str) -> Result<String, Al
     let shown = quoted(alloc, word.as_bytes())?;
     let shown = shown.as_str();
     if word.starts_with("--") && form.contains(word) {
-        return format!(in alloc; "{shown} comes once, and not here; expected \"{form}\"");
+        return format!(in alloc;
+            "{shown} can be given only once, and not here; expected \"{form}\""
+        );
     }
     let input = match command {
         "replay" | "opener" => "log",
@@ -270,15 +272,16 @@ fn no_option(alloc: Global, form: &'static str, word: &str) -> Result<String, Al
     };
     if !word.starts_with("-") && !input.is_empty() {
         return format!(in alloc;
-            "{shown} is no option: {command} reads its {input} from standard input, as < FILE"
+            "{shown} is not an option: {command} reads its {input} from standard input, so use < \
+             FILE"
         );
     }
     let file = if is_path(word) {
-        ", which reads another file with --peers FILE"
+        "; to read another file, use --peers FILE"
     } else {
         ""
     };
-    format!(in alloc; "{shown} is no option of {command}{file}; expected \"{form}\"")
+    format!(in alloc; "{shown} is not an option of {command}{file}; expected \"{form}\"")
 }
 
 /// Returns `true` if an argument looks like the path of a file.
