@@ -240,19 +240,19 @@ pub fn usage_hint(alloc: Global, words: &[String]) -> Result<String, AllocError>
         if form.starts_with("picture ") {
             return picture_hint(alloc, form, rest);
         }
-        if let [first, options @ ..] = rest
-            && first.as_str() == "--anchors"
-        {
-            return explain_options(alloc, ANCHORS_FORM, options);
+        if let [first, options @ ..] = rest {
+            if first.as_str() == "--anchors" {
+                return explain_options(alloc, ANCHORS_FORM, options);
+            }
         }
         if form.contains("--") {
             return explain_options(alloc, form, after_flag(form, rest));
         }
     }
-    if command.as_str() == "help"
-        && let [name] = rest
-    {
-        return unknown_keyword(alloc, Reader::Arguments, name.as_bytes());
+    if command.as_str() == "help" {
+        if let [name] = rest {
+            return unknown_keyword(alloc, Reader::Arguments, name.as_bytes());
+        }
     }
     let mut fields = Vec::new(alloc);
     for word in rest {

@@ -48,7 +48,8 @@ fn past_of(tried: Tried) -> &'static str {
 /// Says why a standard stream failed: `input` or `output`.
 pub fn stream_hint(alloc: Global, stream: &str, error: io::Error) -> Result<String, AllocError> {
     match error.kind() {
-        ErrorKind::IsADirectory => {
+        // EISDIR, which std has a name of its own for only since Rust 1.83.
+        _ if error.raw_os_error() == Some(21) => {
             format!(in alloc; "standard {stream} is a directory, or closed")
         }
         _ => format!(in alloc; "standard {stream}: {error}"),
