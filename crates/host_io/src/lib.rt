@@ -1,8 +1,9 @@
 //! The outside of a program: where bytes come from, where they go, and a folder of files.
 //!
 //! Contracts see of a `Source` the bytes that are left, of a `Sink` those written, and of a
-//! `Folder` its files, what a crash may leave of them, and how both were before each call; of each,
-//! how often its calls have failed. They know these of the objects in memory, not of the adapters.
+//! `Folder` its files, what a crash may leave of them, how both were before each call, and the
+//! calls; of each, how often its calls have failed. They know these of the objects in memory, not
+//! of the adapters.
 //! A vector that contracts see as the list of its items is a `ListOf`.
 //!
 //! Proved:

@@ -60,7 +60,7 @@ fn print_each<R: Print>(rt: &R, folder: &MemFolder, count: u64) -> io::Result<()
 }
 
 /// Renames peers.tmp to peers.dat and syncs the file, but not the folder.
-fn move_file<F: Folder>(folder: &mut F) -> Result<(), Failed> {
+fn move_file(folder: &mut MemFolder) -> Result<(), Failed> {
     if let Some(_) = folder.size(Name::PeersTemp)? {
         folder.rename(Name::PeersTemp, Name::Peers)?;
     }
