@@ -11,10 +11,12 @@
 
 mod ended;
 mod given;
+mod in_order;
 mod placed;
 mod second;
 
 use crate::given::{Given, folder_of};
+use crate::in_order::in_order;
 use crate::placed::Placed;
 pub use crate::second::Facts;
 use crate::second::second_lines;
@@ -119,7 +121,10 @@ pub fn run_program(rt: &HostRuntime) -> Ended {
             rest = after;
         }
     }
-    match Given::of(rt.alloc(), rt, rest) {
+    let Ok(ordered) = in_order(rt.alloc(), rest) else {
+        return Ended::before_the_run("addrman: the arguments cannot be read\n");
+    };
+    match Given::of(rt.alloc(), rt, ordered.as_slice()) {
         Ok(given) => run_over(rt, hasher, &given, rt.reader(), io::writer(rt)),
         Err(_) => Ended::before_the_run("addrman: the arguments cannot be read\n"),
     }

@@ -104,7 +104,7 @@ HOW      what colours stand for: network (the peer's), source (the group of its 
          group (the peer's own), or age (how much older its time is than the newest).
 SET      a prefix such as 1.2.0.0/16 or 2001:db8::/32, an address, or an AS number such as
          AS64500. Each of up to six sets has its own colour, and all other peers are grey.
-         The sets come last; --mark cannot be combined with --by.
+         --mark cannot be combined with --by.
 CHAIN    main (the default), test, testnet4, signet or regtest. For another chain, give
          --magic HEX8 instead: the 8 hexadecimal digits that its files begin with.
 FILE     --peers FILE and --asmap FILE are read instead of peers.dat and asmap.dat.

@@ -3,7 +3,8 @@
 
 use crate::keyword_fields::{expected_text, explain, unknown_keyword};
 use crate::log_line::{SET, set_text};
-use crate::options::{explain_options, wrong_option};
+use crate::option_names::{before_command, rare_option};
+use crate::options::{explain_options, missing_value, wrong_option};
 use crate::syntax::Reader;
 use arguments::MAX_MARKS;
 use risk_parts::parse_set;
@@ -114,10 +115,10 @@ fn picture_hint(alloc: Global, form: &'static str, words: &[String]) -> Result<S
         );
     }
     let sets = words.get(index.saturating_add(1)..).unwrap_or(&[]);
-    if sets.is_empty() {
-        return format!(in alloc; "--mark: expected {SET}");
-    }
     for set in sets {
+        if set.as_str() == "--mark" {
+            return String::from_str(alloc, "--mark is given twice");
+        }
         if parse_set(set.as_bytes()).is_none() {
             let said = set_text(alloc, set.as_bytes())?;
             return format!(in alloc; "--mark: {}", said.as_str());
@@ -130,72 +131,6 @@ fn picture_hint(alloc: Global, form: &'static str, words: &[String]) -> Result<S
         );
     }
     format!(in alloc; "expected \"{form}\"")
-}
-
-/// An option that few commands have, and these.
-struct RareOption {
-    flag: &'static str,
-    commands: &'static str,
-}
-
-/// The options that few commands have.
-static RARE_OPTIONS: [RareOption; 10] = [
-    RareOption {
-        flag: "--peers",
-        commands: "show, picture, raw, info, groups, risk and diff",
-    },
-    RareOption {
-        flag: "--asmap",
-        commands: "picture, raw, info, groups, risk, from-raw, diff, check, lookup, decompile \
-                   and address",
-    },
-    RareOption {
-        flag: "--anchors",
-        commands: "show",
-    },
-    RareOption {
-        flag: "--bans",
-        commands: "banned and bans",
-    },
-    RareOption {
-        flag: "--raw",
-        commands: "picture, info, groups and risk",
-    },
-    RareOption {
-        flag: "--by",
-        commands: "picture",
-    },
-    RareOption {
-        flag: "--mark",
-        commands: "picture",
-    },
-    RareOption {
-        flag: "--exempt",
-        commands: "opener",
-    },
-    RareOption {
-        flag: "--services",
-        commands: "opener",
-    },
-    RareOption {
-        flag: "--skip-bad-ports",
-        commands: "opener",
-    },
-];
-
-/// Returns the option of other commands, if an argument is one.
-fn rare_option(form: &str, words: &[String]) -> Option<&'static RareOption> {
-    for option in &RARE_OPTIONS {
-        for word in words {
-            let begins = word.as_str().strip_prefix(option.flag);
-            if !form.contains(option.flag)
-                && begins.is_some_and(|rest| rest.is_empty() || rest.starts_with("="))
-            {
-                return Some(option);
-            }
-        }
-    }
-    None
 }
 
 /// Returns what the arguments of a command are read as.
@@ -220,10 +155,7 @@ pub fn usage_hint(alloc: Global, words: &[String]) -> Result<String, AllocError>
         );
     };
     if command.as_str().starts_with("-") {
-        return String::from_str(
-            alloc,
-            "expected [-C DIR] COMMAND before other options, for example addrman show --net CHAIN",
-        );
+        return before_command(alloc, command.as_str());
     }
     if let Some(form) = Reader::Arguments.find_form(command.as_bytes()) {
         if let Some(option) = rare_option(form, rest) {
@@ -233,6 +165,9 @@ pub fn usage_hint(alloc: Global, words: &[String]) -> Result<String, AllocError>
                 command.as_str(),
                 option.commands
             );
+        }
+        if let Some(text) = missing_value(alloc, form, rest)? {
+            return Ok(text);
         }
         if form.starts_with("risk ") {
             return risk_hint(alloc, form, rest);

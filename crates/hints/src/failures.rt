@@ -45,13 +45,13 @@ fn past_of(tried: Tried) -> &'static str {
     }
 }
 
+/// The number of the error EISDIR of a call on a directory.
+const IS_A_DIRECTORY: i32 = 21;
+
 /// Says why a standard stream failed: `input` or `output`.
 pub fn stream_hint(alloc: Global, stream: &str, error: io::Error) -> Result<String, AllocError> {
-    match error.kind() {
-        // EISDIR, which std has a name of its own for only since Rust 1.83.
-        _ if error.raw_os_error() == Some(21) => {
-            format!(in alloc; "standard {stream} is a directory, or closed")
-        }
-        _ => format!(in alloc; "standard {stream}: {error}"),
+    if error.raw_os_error() == Some(IS_A_DIRECTORY) {
+        return format!(in alloc; "standard {stream} is a directory, or closed");
     }
+    format!(in alloc; "standard {stream}: {error}")
 }

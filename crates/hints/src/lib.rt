@@ -14,6 +14,7 @@ mod files;
 mod keyword_fields;
 mod log_line;
 mod noted_folder;
+mod option_names;
 mod options;
 mod peers_dat;
 mod prefixes_txt;
