@@ -101,7 +101,7 @@ def read_module(crate, path):
             comment.append(line[2:].strip())
         elif re.match(r"pub mod |mod |infix", line):
             pass
-        elif line.startswith((" ", "}", ")", "]")):
+        elif line.startswith((" ", "}", ")", "]", "unfolding ")):
             if decl:
                 decl.text += "\n" + line
         else:
