@@ -30,8 +30,8 @@
 #                 it is built, below $(DESTDIR)$(PREFIX); BINDIR, LIBDIR, INCLUDEDIR, MANDIR, DATADIR
 #                 and DOCDIR name the single folders
 # make uninstall  removes what make install copies, with the same variables
-# make dist       packs program, documents, bindings, examples and vectors as
-#                 bin/addrman-VERSION-x86_64-linux.tar.gz
+# make dist       packs program, documents, bindings, examples and vectors, and the library for C if it
+#                 is built, as bin/addrman-VERSION-MACHINE-linux.tar.gz
 # make release    builds all that a release has in two folders, compares, and keeps bin/release
 
 PREFIX ?= /usr/local
@@ -44,7 +44,9 @@ DOCDIR ?= $(DATADIR)/doc/addrman
 COMPLETIONS = $(DATADIR)/bash-completion/completions
 VERSION := 0.1.0
 ZERO_KEY := 0000000000000000000000000000000000000000000000000000000000000000
-DIST := addrman-$(VERSION)-x86_64-linux
+# What the program is built for.
+BUILT_FOR := $(shell uname -m)
+DIST := addrman-$(VERSION)-$(BUILT_FOR)-linux
 
 # Where the toolchain has its part of the C library: the allocator that the library calls.
 KIT = $(shell dirname "$$(dirname "$$(readlink -f "$$(command -v rt)")")")
@@ -214,6 +216,8 @@ ci-lib-test:
 bin/addrman:
 	$(MAKE) all
 
+# A document without the files that it links to keeps the words of these links.
+ALONE := s/\[([^]]*)\]\([^\#)][^)]*\)/\1/g
 install: bin/addrman
 	install -d $(DESTDIR)$(BINDIR) $(DESTDIR)$(MANDIR)/man1 $(DESTDIR)$(COMPLETIONS)
 	install -d $(DESTDIR)$(DOCDIR)
@@ -222,7 +226,9 @@ install: bin/addrman
 		> $(DESTDIR)$(MANDIR)/man1/addrman.1
 	chmod 644 $(DESTDIR)$(MANDIR)/man1/addrman.1
 	install -m 644 tools/addrman.bash $(DESTDIR)$(COMPLETIONS)/addrman
-	install -m 644 docs/FORMATS.md LICENSE $(DESTDIR)$(DOCDIR)
+	sed -E '$(ALONE)' docs/FORMATS.md > $(DESTDIR)$(DOCDIR)/FORMATS.md
+	chmod 644 $(DESTDIR)$(DOCDIR)/FORMATS.md
+	install -m 644 LICENSE $(DESTDIR)$(DOCDIR)
 	test ! -d bin/lib || $(MAKE) install-lib
 
 # Bitcoin Core has a file addrman.h too, so the headers have a folder of their own:
@@ -254,14 +260,20 @@ uninstall:
 	-rmdir --ignore-fail-on-non-empty $(wildcard $(DESTDIR)$(DOCDIR) \
 		$(DESTDIR)$(INCLUDEDIR)/libaddrman $(DESTDIR)$(LIBDIR)/cmake/addrman)
 
-# What README.md names by a link is packed too, and what the packed documents name.
-PACKED := LICENSE README.md CHANGELOG.md CONTRIBUTING.md SECURITY.md docs examples bindings vectors \
+# What the packed documents name by a link is packed too. README.md is one of its own.
+PACKED := LICENSE CHANGELOG.md SECURITY.md docs examples bindings vectors \
 	bench/README.md plain/README.md plain/face/README.md plain/face/examples/node.rs tools/addrman.bash
 
 dist: bin/addrman
 	rm -rf bin/$(DIST) && mkdir -p bin/$(DIST)
 	cp --parents -r $(PACKED) bin/$(DIST)
+	rm -r bin/$(DIST)/docs/inside
+	sed -E -i 's/\[([^]]*)\]\(inside[^)]*\)/\1/g' bin/$(DIST)/docs/*.md
 	cp bin/addrman bin/$(DIST)
+	test ! -d bin/lib || (mkdir bin/$(DIST)/lib && cp bin/lib/libaddrman.a bin/lib/libaddrman.so.1 bin/$(DIST)/lib)
+	sed -e 's|@VERSION@|$(VERSION)|' -e 's|@MACHINE@|$(BUILT_FOR)|' \
+		-e "s|@GLIBC@|$$(readelf -V bin/addrman | grep -o 'GLIBC_[0-9.]*' | sort -Vu | tail -1 | cut -c7-)|" \
+		tools/tarball.md > bin/$(DIST)/README.md
 	find bin/$(DIST) -name __pycache__ -prune -exec rm -r {} +
 	find bin/$(DIST) -type f -perm -u+x -exec chmod 755 {} + -o -type f -exec chmod 644 {} + \
 		-o -type d -exec chmod 755 {} +
