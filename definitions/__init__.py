@@ -1,0 +1,1 @@
+"""Reads the definitions of crates/*/specs as they are, and evaluates them."""
