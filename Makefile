@@ -22,15 +22,17 @@
 #                 BACKEND=rattle by Rattle's own compiler, with backtraces for a debugger alone
 # make lib-test   tries it from C, C++ and Python, beside the built program
 # make ci-lib-test  the same with what rt ci has just proved and built in this clone
-# make ci-program-test  rows, endings, mistakes and examples with what rt ci has just proved and built in this clone
+# make ci-program-test  rows, endings, mistakes and examples with what rt ci has just proved and built in this clone,
+#                 and whether the book is whole
 # make ci-plain-test  what make and make check do, and its program beside that which rt ci has just built
 # make packed     tries make install, make uninstall and make dist
+# make book       the book of the proofs as bin/book/index.html: a page for each command, call, crate and claim
 # make figures    prints lines, words and the like, and checks what docs/DEFINITIONS.md and MAP.md list
 # make install    copies program, manual page, completion, docs/FORMATS.md, and the library for C if
 #                 it is built, below $(DESTDIR)$(PREFIX); BINDIR, LIBDIR, INCLUDEDIR, MANDIR, DATADIR
 #                 and DOCDIR name the single folders
 # make uninstall  removes what make install copies, with the same variables
-# make dist       packs program, documents, bindings, examples and vectors, and the library for C if it
+# make dist       packs program, documents, book, bindings, examples and vectors, and the library for C if it
 #                 is built, as bin/addrman-VERSION-MACHINE-linux.tar.gz
 # make release    builds all that a release has in two folders, compares, and keeps bin/release
 
@@ -51,7 +53,7 @@ DIST := addrman-$(VERSION)-$(BUILT_FOR)-linux
 # Where the toolchain has its part of the C library: the allocator that the library calls.
 KIT = $(shell dirname "$$(dirname "$$(readlink -f "$$(command -v rt)")")")
 
-.PHONY: all plain check proved package plain-lib plain-archive sanitized-lib bench try ci-try demo examples \
+.PHONY: all book plain check proved package plain-lib plain-archive sanitized-lib bench try ci-try demo examples \
 	flood page page-test endings mistakes packed test figures lib lib-test ci-lib-test ci-program-test \
 	archive install install-lib uninstall dist release
 
@@ -154,6 +156,8 @@ ci-program-test:
 	tools/endings crates/addrman/out/addrman
 	tools/mistakes crates/addrman/out/addrman
 	tools/examples crates/addrman/out/addrman
+	tools/book --lacks
+	tools/test_book
 
 # The same sources, built by cargo from nothing, beside the program that rt ci has just built.
 ci-plain-test:
@@ -170,6 +174,10 @@ test:
 
 figures:
 	tools/figures
+
+book:
+	rm -rf bin/book
+	tools/book bin/book
 
 lib:
 	cd crates/addrman_c && rt $(if $(BACKEND),lib --backend $(BACKEND),check)
@@ -264,12 +272,12 @@ uninstall:
 PACKED := LICENSE CHANGELOG.md SECURITY.md docs examples bindings vectors \
 	bench/README.md plain/README.md plain/face/README.md plain/face/examples/node.rs tools/addrman.bash
 
-dist: bin/addrman
+dist: bin/addrman book
 	rm -rf bin/$(DIST) && mkdir -p bin/$(DIST)
 	cp --parents -r $(PACKED) bin/$(DIST)
 	rm -r bin/$(DIST)/docs/inside
 	sed -E -i 's/\[([^]]*)\]\(inside[^)]*\)/\1/g' bin/$(DIST)/docs/*.md
-	cp bin/addrman bin/$(DIST)
+	cp -r bin/addrman bin/book bin/$(DIST)
 	test ! -d bin/lib || (mkdir bin/$(DIST)/lib && cp bin/lib/libaddrman.a bin/lib/libaddrman.so.1 bin/$(DIST)/lib)
 	sed -e 's|@VERSION@|$(VERSION)|' -e 's|@MACHINE@|$(BUILT_FOR)|' \
 		-e "s|@GLIBC@|$$(readelf -V bin/addrman | grep -o 'GLIBC_[0-9.]*' | sort -Vu | tail -1 | cut -c7-)|" \

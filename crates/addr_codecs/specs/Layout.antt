@@ -1,5 +1,5 @@
 -- The layout of the messages `addr` and `addrv2` (BIP 155), field by field, and the fault that each
--- field may show.
+-- field may show. An entry is `CAddress` in protocol.h of Bitcoin Core.
 use Rattle.std.specs.Prelude.{ℕ, List, Option, Some, option_map, nat_le}
 use Rattle.std.specs.Int.{w16, w32, w64}
 use Rattle.net_addr.specs.Address.{Address}

@@ -1,4 +1,5 @@
--- The file of a list of bans (`banlist.json`).
+-- The file of a list of bans (`banlist.json`). Bitcoin Core reads it in `BanMapFromJson` in
+-- net_types.cpp.
 use Rattle.std.specs.Prelude.{◌≡◌, ◌⊎◌, ℕ, ◌+◌, ◌<◌, ◌≤◌, List, [], ◌∷◌, map, length, codes, min, Option, Some, None, option_and_then, IsUtf8}
 use Rattle.std.specs.List.{fold}
 use Rattle.serde_json.specs.Data.{Num, unsigned, negative, float, Data, Members, number, string, array, object, member, no_members}

@@ -1,4 +1,5 @@
--- The generated log: the random words that it uses, and its lines.
+-- The generated log: the random words that it uses, and its lines. The generator is xoshiro256++ as
+-- in rand_xoshiro.
 use Rattle.std.specs.Prelude.{ℕ, zero, suc, ◌+◌, ◌-◌, ◌/◌, ◌%◌, ◌^◌, List, [], ◌∷◌, ◌++◌, length, nat_lt, codes, decimal, if◌then◌else◌}
 use Rattle.hex.specs.Hex.{encode_lower}
 use Rattle.rand_xoshiro.specs.Xoshiro256.{plus_plus, of_seed}

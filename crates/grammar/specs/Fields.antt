@@ -1,4 +1,6 @@
--- The kinds of the fields of a line, and the value of the text of a field.
+-- The kinds of the fields of a line, and the value of the text of a field. Hexadecimal digits are
+-- those of RFC 4648, section 8. Seeded words are those of xoshiro256++ by Blackman and Vigna, with
+-- `seed_from_u64` of rand_xoshiro.
 use Rattle.std.specs.Prelude.{◌≡◌, ◌⊎◌, ◌≢◌, ℕ, ◌<◌, ◌≤◌, ◌^◌, List, [], ◌∷◌, ◌++◌, map, fold, length, All, AllPairs, Bool, true, false, ◌-◌, Ok, codes, decimal}
 use Rattle.std.specs.List.{join_with_byte}
 use Rattle.hex.specs.Hex.{decode_of}

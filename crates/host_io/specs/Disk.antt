@@ -3,7 +3,7 @@
 --
 -- They are said name by name. A crash may leave any mix of what each name may have, so a renamed
 -- file may be at both of its names or at neither. A real disk leaves fewer folders, and what is
--- proved of all of these holds of those.
+-- proved of all of these holds of those. The rules are our own, after `fsync(2)` and `rename(2)`.
 use Rattle.std.specs.Prelude.{◌≡◌, ◌⊎◌, ℕ, Bool, true, false, List, [], ◌∷◌, ◌++◌, take, Option, Some, None, IsSome}
 use Rattle.std.specs.Option.{option_map}
 use Rattle.host_io.specs.Files.{Files}

@@ -1,4 +1,4 @@
--- The tests of an address, by its first bits.
+-- The tests of an address, by its first bits. A range is a prefix as in RFC 4632, section 3.1.
 use Rattle.std.specs.Prelude.{ℕ, ◌-◌, List, [], ◌∷◌, take, drop, map, Bool, true, false, ◌&&◌, ◌||◌, not, ◌==◌, Option, Some, None, is_some, if◌then◌else◌}
 use Rattle.std.specs.Int.{bit_at}
 use Rattle.std.specs.List.{flat_map, starts_with, list_any}

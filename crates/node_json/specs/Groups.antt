@@ -1,4 +1,5 @@
--- The groups of the tables: how many slots, buckets and records each has.
+-- The groups of the tables: how many slots, buckets and records each has. How well the asmap covers
+-- the records is what `NetGroupManager::ASMapHealthCheck` in netgroup.cpp of Bitcoin Core logs.
 use Rattle.std.specs.Prelude.{◌≡◌, ℕ, All, Bool, Contains, IfSome, true, false, not, List, [], ◌∷◌, ◌++◌, length, map, Option, Some, None, bytes_eq, codes, count_by, filter, fold, if◌then◌else◌, is_some, ◌==◌, ◌||◌}
 use Rattle.std.specs.List.{flat_map, list_any}
 use Rattle.json.specs.Json.{Json, string}

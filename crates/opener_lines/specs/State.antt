@@ -1,5 +1,6 @@
 -- The address manager with the open outbound peers, the rules by which they are chosen, and what a
--- request does to them.
+-- request does to them. Bitcoin Core opens its connections in `CConnman::ThreadOpenConnections` in
+-- net.cpp.
 use Rattle.std.specs.Prelude.{◌≡◌, ◌⊎◌, ℕ, ◌<◌, List, Bool, length}
 use Rattle.net_addr.specs.declared.peer.Peer.{Peer}
 use Rattle.placing.specs.Places.{Places}

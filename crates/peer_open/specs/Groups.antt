@@ -1,4 +1,5 @@
 -- The open outbound peers with their network groups, in the order in which they were opened.
+-- Bitcoin Core keeps the groups apart in `CConnman::ThreadOpenConnections` in net.cpp.
 use Rattle.std.specs.Prelude.{◌≢◌, ℕ, List, [], ◌∷◌, ◌++◌, map, filter, not, Bool, AllPairs, bytes_eq}
 use Rattle.std.specs.List.{list_any}
 use Rattle.net_addr.specs.Same.{same_peer}

@@ -1,4 +1,5 @@
--- What a file of peers has, and what each of its records has.
+-- What a file of peers has, and what each of its records has. It is what `AddrManImpl::Serialize`
+-- in addrman.cpp of Bitcoin Core writes.
 use Rattle.std.specs.Prelude.{◌≡◌, ℕ, ◌<◌, ◌≤◌, ◌^◌, List, length, All, AllPairs}
 use Rattle.net_addr.specs.Address.{IsAddress}
 use Rattle.peer_rec.specs.declared.file_rec.FileRec.{FileRec}

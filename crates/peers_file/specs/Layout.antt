@@ -26,7 +26,8 @@ use Rattle.peers_file.specs.declared.fault.RecordCause.TheVariants as cause
 use Rattle.peers_file.specs.declared.fault.FileFault.{FileFault}
 use Rattle.peers_file.specs.declared.fault.FileFault.TheVariants.{Truncated, BadMagic, BadSum, Compat, Version, Count, Record, Buckets, Time, Attempts, Trailing, TooLarge, Memory}
 
--- the bytes that begin the files of a chain
+-- The bytes that begin the files of a chain (`pchMessageStart` in kernel/chainparams.cpp of Bitcoin
+-- Core).
 abbrev pub magic_of : Chain → List ℕ
 magic_of Main = 0xf9 ∷ 0xbe ∷ 0xb4 ∷ 0xd9 ∷ []
 magic_of Test = 0x0b ∷ 0x11 ∷ 0x09 ∷ 0x07 ∷ []

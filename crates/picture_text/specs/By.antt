@@ -1,4 +1,5 @@
--- What the colours of a picture go by, as its texts say it.
+-- What the colours of a picture go by, as its texts say it. The colours on a dark ground are those
+-- of a media query (Media Queries 5).
 use Rattle.std.specs.Prelude.{ℕ, List, [], ◌∷◌, ◌++◌, codes}
 use Rattle.std.specs.List.{flat_map}
 use Rattle.picture_text.specs.Elements.{label}

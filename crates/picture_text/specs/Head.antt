@@ -1,4 +1,4 @@
--- What each picture has.
+-- What each picture has. A picture is an SVG 2 document.
 use Rattle.std.specs.Prelude.{ℕ, List, [], ◌∷◌, ◌++◌, codes}
 use Rattle.std.specs.List.{flat_map}
 use Rattle.picture_text.specs.Elements.{label}

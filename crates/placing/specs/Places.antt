@@ -100,7 +100,8 @@ sum_by rule (Some m) = double_sha256 (sum_input rule m.file)
 abbrev pub sum_of : Places → List ℕ
 sum_of places = sum_by places.rule places.map
 
--- the group of an address by the node's asmap
+-- The group of an address by the node's asmap (`NetGroupManager::GetGroup` in netgroup.cpp of
+-- Bitcoin Core).
 abbrev pub group : Places → Address → List ℕ
 group places a = group_of a (asn places.map a)
 

@@ -1,4 +1,4 @@
--- How a prefix table is printed.
+-- How a prefix table is printed. IPv6 is written by RFC 5952.
 use Rattle.std.specs.Prelude.{◌==◌, ℕ, ◌-◌, ◌/◌, ◌%◌, ◌^◌, Bool, List, [], ◌∷◌, ◌++◌, decimal, codes, flat_map, nat_le, ◌&&◌, if◌then◌else◌}
 use Rattle.std.specs.Int.{w32, w128, to_be_bytes}
 use Rattle.net_addr.specs.Text.{ipv4_text, ipv6_text}

@@ -1,4 +1,5 @@
--- How many starts of a table lead to records of each chance.
+-- How many starts of a table lead to records of each chance. The chances are those of
+-- `AddrInfo::GetChance` in addrman.cpp of Bitcoin Core.
 use Rattle.std.specs.Prelude.{ℕ, ◌*◌, ◌/◌, ◌^◌, List, ◌++◌, Bool, true, ◌&&◌, ◌==◌, filter, map, sum_by}
 use Rattle.std.specs.List.{range_with_len}
 use Rattle.net_addr.specs.declared.peer.Peer.{Peer}

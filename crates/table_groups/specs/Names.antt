@@ -1,4 +1,4 @@
--- How people write the group of an address.
+-- How people write the group of an address. IPv6 is written by RFC 5952, base 32 by RFC 4648.
 use Rattle.std.specs.Prelude.{ℕ, ◌+◌, ◌*◌, ◌/◌, ◌^◌, ◌==◌, nat_lt, List, [], ◌∷◌, ◌++◌, take, codes, decimal, slice_index, unwrap_or, if◌then◌else◌}
 use Rattle.std.specs.Int.{w128, from_be_bytes, to_be_bytes}
 use Rattle.hex.specs.Hex.{encode_lower}

@@ -1,4 +1,4 @@
--- Texts in which nothing has to be escaped, neither in XML nor in JSON.
+-- Texts in which nothing has to be escaped, neither in XML 1.0 nor in JSON.
 use Rattle.std.specs.Prelude.{◌≡◌, ℕ, ◌==◌, ◌&&◌, ◌||◌, not, nat_le, Bool, true, List}
 use Rattle.std.specs.List.{list_all}
 

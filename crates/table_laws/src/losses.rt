@@ -51,9 +51,9 @@ pub fn openings_lose_with_causes()
 /// (`slots`), so a round finds it from as many slots (`leading`). A record has another number, and
 /// 0 as the times of its last try and of the last one that counted. So one that was last tried at
 /// least ten minutes ago is selected by as many residues as before (`picks`), and one that was last
-/// tried more than a minute ago may be in a sample exactly if it might be before (`eligible`). By
-/// the definition `restart`, collisions are gone, the order of samples is by number, and the last
-/// success of any peer has the time 1.
+/// tried more than a minute ago may be in a sample exactly if it might be before (`eligible`).
+/// Collisions are gone, the order of samples is by number, and the last success of any peer has the
+/// time 1.
 pub fn restarts_keep_records()
     ensures { (st : State) → IsSound st → KeepsOverRestart st }
 {}

@@ -1,5 +1,5 @@
--- What an entry of a message does to the tables (`AddrManImpl::AddSingle` and `Add_` in addrman.cpp
--- of Bitcoin Core).
+-- What an entry of a message does to the tables (`AddrManImpl::AddSingle`, `Add_`, `Create`,
+-- `ClearNew` and `Delete` in addrman.cpp of Bitcoin Core).
 use Rattle.std.specs.Prelude.{ℕ, ◌+◌, ◌-◌, ◌%◌, ◌^◌, List, [], ◌∷◌, ◌++◌, length, map, filter, Bool, true, false, ◌&&◌, ◌||◌, not, ◌==◌, nat_lt, nat_le, Option, Some, None, bit_or, if◌then◌else◌}
 use Rattle.net_addr.specs.Address.{Address}
 use Rattle.net_addr.specs.Same.{same_address}
