@@ -88,7 +88,7 @@ impl<'a> Given<'a> {
     /// Makes the arguments of a run: `help COMMAND` if an option asks for it, `version` for `-V`,
     /// and for `--key-file FILE` the key in the file, so that the list of processes doesn't have
     /// it. Options that name a file to be read are left out. The arguments are in the order of
-    /// `in_order`.
+    /// `put_in_order`.
     pub(crate) fn of<R: Files>(
         alloc: Global,
         rt: &R,

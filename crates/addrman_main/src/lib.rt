@@ -16,7 +16,7 @@ mod placed;
 mod second;
 
 use crate::given::{Given, folder_of};
-use crate::in_order::in_order;
+use crate::in_order::put_in_order;
 use crate::placed::Placed;
 pub use crate::second::Facts;
 use crate::second::second_lines;
@@ -121,7 +121,7 @@ pub fn run_program(rt: &HostRuntime) -> Ended {
             rest = after;
         }
     }
-    let Ok(ordered) = in_order(rt.alloc(), rest) else {
+    let Ok(ordered) = put_in_order(rt.alloc(), rest) else {
         return Ended::before_the_run("addrman: the arguments cannot be read\n");
     };
     match Given::of(rt.alloc(), rt, ordered.as_slice()) {
