@@ -33,7 +33,7 @@ with_output text conn = record { text = text; conn = conn }
 abbrev pub comment : List ℕ → ℕ → List ℕ → List ℕ
 comment word number said = codes "# " ++ word ++ codes " " ++ decimal number ++ said
 
--- The network is the one of internal addresses, which no message carries.
+-- The network is that of internal addresses, which no `addrv2` message carries.
 abbrev pub is_internal : Net → Bool
 is_internal Internal = true
 is_internal other = false

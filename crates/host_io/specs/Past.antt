@@ -1,4 +1,5 @@
--- What contracts know of a folder until now.
+-- What contracts know of a folder until now. "Unchanged" is then an equation of two pasts, and "at
+-- every moment since" speaks of a list of disks.
 use Rattle.std.specs.Prelude.{◌≡◌, ◌⊎◌, List, [], ◌∷◌, ◌++◌, Option, Some, None, IfSome, true}
 use Rattle.host_io.specs.Disk.{Disk, files_on}
 use Rattle.host_io.specs.Files.{Files}

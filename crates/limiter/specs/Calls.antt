@@ -7,7 +7,7 @@ use Rattle.limiter.specs.Tokens.{after_getaddr, refill, after_entries, admit_con
 use Rattle.limiter.specs.declared.limiter.Asked.{Asked}
 use Rattle.limiter.specs.declared.limiter.Asked.TheVariants.{Unknown, Already, Granted}
 
--- The answer to a `getaddr` of a connection: it is granted once (`m_getaddr_recvd` in
+-- The answer to a `getaddr` that is sent to a connection: it is granted once (`m_getaddr_sent` in
 -- net_processing.cpp of Bitcoin Core).
 abbrev pub asked_of : Option Conn → Asked
 asked_of None = Unknown

@@ -1,4 +1,6 @@
--- The tables of a listing, as it says them: no key is needed, and nothing is placed anew.
+-- The tables of a listing, as it says them: no key is needed, and nothing is placed anew. A peer of
+-- the new table is one record, that of its first row, whatever later rows say of it. One that is in
+-- both tables, since it moved while they were read, is two. What a listing does not say is 0.
 use Rattle.std.specs.Prelude.{◌==◌, ℕ, ◌*◌, List, [], ◌∷◌, ◌++◌, map, fold, replicate, get_or, slice_set, Option, Some, None, if◌then◌else◌}
 use Rattle.std.specs.List.{list_any}
 use Rattle.net_addr.specs.Same.{same_peer}

@@ -1,5 +1,7 @@
 -- What pictures and counts are made from: the records of both tables, and the slots that they are
--- in. It may be the state of a node's tables, or what a text says of their slots.
+-- in. It may be the state of a node's tables, or what a text says of their slots. The slots are
+-- functions, so that nothing is copied and the view of a state computes. Groups depend on its asmap
+-- only, and not on a key.
 use Rattle.std.specs.Prelude.{ℕ, ◌&&◌, not, List, Bool, true, false, Option, count_by}
 use Rattle.peer_rec.specs.Rec.{is_tried}
 use Rattle.peer_rec.specs.declared.rec.Rec.{Rec}
