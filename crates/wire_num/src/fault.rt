@@ -1,8 +1,5 @@
 //! `WireFault`: the bytes end too early, or a CompactSize is longer than needed. Also `Memory`, the
 //! error of this crate when it is out of memory.
-
-use std::alloc::AllocError;
-
 /// Why a field cannot be read.
 #[derive(Clone, Copy, Debug, PartialEq, Eq, Drop)]
 pub enum WireFault {
@@ -10,14 +7,4 @@ pub enum WireFault {
     Truncated = 1,
     /// A CompactSize has more bytes than its value needs.
     NonCanonical = 2,
-}
-
-/// Out of memory.
-#[derive(Clone, Copy, Debug, PartialEq, Eq)]
-pub struct Memory;
-
-impl From<AllocError> for Memory {
-    fn from(_error: AllocError) -> Memory {
-        Memory
-    }
 }
