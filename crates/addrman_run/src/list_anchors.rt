@@ -1,4 +1,5 @@
 //! `show --anchors`, the listing of a file of anchors; and `magic_of` a chain.
+
 ghost use Rattle.addrman_run.specs.Anchors.{IsAnchorsText, ReportsAnchors};
 ghost use Rattle.addrman_run.specs.declared.input.Input.TheVariants as input;
 

@@ -1,4 +1,5 @@
 //! The law that a file has one meaning, and the limit as a number.
+
 ghost use Rattle.std.specs.Prelude.{◌≡◌, ℕ, ◌<◌, List, All};
 ghost use Rattle.peers_file.specs.Layout.{HasOneMeaning};
 ghost use Rattle.peers_file.specs.declared.chain.Chain.{Chain};
