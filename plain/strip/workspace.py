@@ -142,7 +142,7 @@ def why_not(root):
     found = re.match(r'rustc (\d+)\.(\d+)', said.stdout)
     if not found or [int(n) for n in found.groups()] < [int(n) for n in least.split('.')]:
         return 'rustc is older than %s' % least
-    return '' if has_packages(registry) else 'the packages of plain/README.md are not there'
+    return '' if has_packages(registry) else 'the packages that README.md names are not there'
 
 
 def cargo_toml(crate, words, deps, left, plain, registry):

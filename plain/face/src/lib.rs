@@ -105,4 +105,8 @@ pub use prefix_table::TableFault;
 pub use risk_parts::Parts;
 
 /// The tables hold at most this number of records: one for each slot.
+///
+/// ```
+/// assert_eq!(addrman::MAX_RECORDS, 81_920);
+/// ```
 pub const MAX_RECORDS: usize = slot_grid::ALL_SLOTS;
