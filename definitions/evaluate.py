@@ -99,6 +99,10 @@ class Definitions:
         self.used: set[tuple[str, str, str]] = set()
         self.replaced: dict[tuple[str, str, str], Any] = {}
         self.indexes: Any = None
+        # what else a search knows of relations: `guides.py`
+        self.guides: dict[tuple[str, str, str], Callable] = {}
+        self.skipped: dict[tuple[str, str, str, str], str] = {}
+        self.passed: collections.Counter[tuple[str, str, str, str]] = collections.Counter()
         if replaced:
             self.replaced = replaced(self)
 

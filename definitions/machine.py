@@ -6,6 +6,7 @@ import threading
 from typing import Any, Callable
 
 from .evaluate import Definitions
+from .guides import SKIPPED, guides, run_words, sampled_words
 from .index import Indexes
 from .primitives import PRIMITIVES
 from .readings import replaced
@@ -26,6 +27,10 @@ def load(root: str = 'crates', changes: list[tuple[str, str, str]] = [],
     indexes = Indexes(definitions, exact)
     definitions.replaced.update(indexes.words())
     definitions.indexes = indexes
+    definitions.replaced.update(run_words(definitions))
+    definitions.replaced.update(sampled_words(definitions))
+    definitions.guides.update(guides(definitions))
+    definitions.skipped.update(SKIPPED)
     return definitions
 
 

@@ -8,6 +8,7 @@ import hashlib
 import ipaddress
 from typing import Any, Callable, Iterator
 
+from . import values
 from .solve import INVERSES, equal, spell, unify
 from .evaluate import SOURCES, environment
 from .syntax import Apply, Name
@@ -55,17 +56,23 @@ def drop(n: Any, xs: Any) -> Any:
 
 
 def length(xs: Any) -> int:
-    """The number of elements. It is noted at each element of a list that no search made."""
+    """The number of elements. It is noted at each element of a list in which no unknown is that a
+    search bound."""
+    before, values.tentative = values.tentative, False
     xs = N(xs)
     passed = []
     while xs is not NIL and xs.size is None:
         passed.append(xs)
-        xs = N(xs.tail)
+        xs = xs.tail
+        if type(xs) is not Cons:
+            xs = N(xs)
     size = 0 if xs is NIL else xs.size
+    if values.tentative:
+        return size + len(passed)
+    values.tentative = before
     for cell in reversed(passed):
         size += 1
-        if cell.done:
-            cell.size = size
+        cell.size = size
     return size
 
 

@@ -80,12 +80,12 @@ def equal(a: Any, b: Any, late: bool) -> Iterator[None]:
                     undo(mark)
                     return
             continue
-        try:
-            whole = numbers(known)
-        except (Stuck, AttributeError, TypeError):
-            undo(mark)
+        if not isinstance(value, (Cons, Nil)):
             continue
-        if not all(type(x) is int for x in whole):
+        try:
+            whole = [force(x) for x in items(value)]
+        except Stuck:
+            undo(mark)
             continue
         ends = spell(other, whole, 0, late)
         try:
@@ -129,6 +129,11 @@ def spell(v: Any, s: list[int], i: int, late: bool) -> Iterator[int]:
             if rest is NIL and all(type(x) is int for x in got):
                 if s[i:i + len(got)] == got:
                     yield i + len(got)
+                return
+            if rest is NIL and i + len(got) <= len(s):
+                if all(map(unify, got, s[i:])):
+                    yield i + len(got)
+                undo(mark)
                 return
     except Stuck:
         v_ = peek(v)
@@ -218,8 +223,10 @@ def guess(pattern: Pattern, v: Any, names: dict[str, Any]) -> bool:
         match pattern:
             case syntax.Literal(value):
                 return unify(w, value)
-            case syntax.Form(name, []):
-                return unify(w, Con(name, (), True))
+            case syntax.Form(name, arguments) if name != 'suc':
+                made = Con(name, tuple(Var() for _ in arguments))
+                return unify(w, made) and all(
+                    guess(q, x, names) for q, x in zip(arguments, made.args))
         raise Stuck(w)
     match pattern:
         case syntax.Literal(value):
@@ -325,8 +332,16 @@ def steps(goal: Any, late: bool) -> Iterator[list[Any]]:
         yield [parts[0]]
         yield [parts[1]]
     elif kind == 'equal':
-        for _ in equal(parts[0], parts[1], late):
-            yield []
+        begun = False
+        try:
+            for _ in equal(parts[0], parts[1], late):
+                begun = True
+                yield []
+        except Stuck:
+            pieces = None if begun else pairs_of(peek(parts[0]), peek(parts[1]))
+            if pieces is None:
+                raise
+            yield pieces
     elif kind == 'not':
         if not holds([parts[0]]):
             yield []
@@ -352,6 +367,21 @@ def steps(goal: Any, late: bool) -> Iterator[list[Any]]:
         yield from type_steps(parts[0], parts[1], parts[2], witness)
     else:
         raise Undefined(f'no proposition: {kind}')
+
+
+def pairs_of(a: Any, b: Any) -> list[Any] | None:
+    """Two values of one form that are not known yet, as goals that their parts are the same; None
+    if they are not such."""
+    if type(a) is Con and type(b) is Con and a.args and a.name == b.name:
+        return [Prop('equal', x, y) for x, y in zip(a.args, b.args)]
+    if type(a) is Cons and type(b) is Cons and type(peek(a.head)) is not int:
+        return [Prop('equal', a.head, b.head), Prop('equal', a.tail, b.tail)]
+    if type(a) is tuple and type(b) is tuple:
+        return [Prop('equal', x, y) for x, y in zip(a, b)]
+    if isinstance(a, dict) and isinstance(b, dict) and not isinstance(a, Open) \
+            and not isinstance(b, Open):
+        return [Prop('equal', a[key], b[key]) for key in a]
+    return None
 
 
 def for_each(goal: Any, first: int) -> bool:
@@ -381,10 +411,25 @@ def for_each(goal: Any, first: int) -> bool:
 
 def type_steps(scope: Scope, of: Parametrised, args: tuple, witness: Any) -> Iterator[list[Any]]:
     """The ways to a record, all of its fields, or to a data type, one of its constructors."""
+    definitions, key = scope.definitions, (scope.module.crate, scope.module.name, of.name)
+    if key in definitions.guides:
+        for _ in definitions.guides[key](*args):
+            yield from parts_steps(scope, of, args, witness)
+        return
+    yield from parts_steps(scope, of, args, witness)
+
+
+def parts_steps(scope: Scope, of: Parametrised, args: tuple, witness: Any) -> Iterator[list[Any]]:
+    """The same, after a guide has proposed what is not known."""
     names = dict(zip(of.parameters, args))
+    definitions, module = scope.definitions, scope.module
     if of.kind == 'record':
         goals = []
         for name, data, known, tree in fields_of(scope, of):
+            if (module.crate, module.name, of.name, name) in definitions.skipped:
+                definitions.passed[module.crate, module.name, of.name, name] += 1
+                names = {**names, name: Open()}
+                continue
             at = field(witness, name) if witness is not None else None
             if data:
                 names = {**names, name: Var((scope, tree)) if at is None else at}
@@ -396,12 +441,18 @@ def type_steps(scope: Scope, of: Parametrised, args: tuple, witness: Any) -> Ite
         yield goals
         return
     for _, tree in of.parts:
-        goals = []
+        goals, inside = [], names
         while isinstance(tree, (Operation, syntax.Bound)) and tree.operator == '→':
             if isinstance(tree, syntax.Bound):
-                raise Undefined('a constructor with a value')
-            goals.append(scope.thunk_of(tree.left, names))
-            tree = tree.right
+                value: Any = Var((scope, tree.type))
+                if not is_data(scope, tree.type):
+                    value = Open()
+                    goals.append(Prop('witnessed', scope.thunk_of(tree.type, inside), value))
+                inside = {**inside, tree.name: value}
+                tree = tree.body
+            else:
+                goals.append(scope.thunk_of(tree.left, inside))
+                tree = tree.right
         yield goals
 
 
@@ -410,7 +461,8 @@ def solve(goals: list[Any]) -> Iterator[None]:
     if not goals:
         yield
         return
-    asked: tuple[Var, list[Any]] | None = None
+    asked: tuple[Any, list[Any]] | None = None
+    by_goal = False
     choices: list[int] = []
     for late in (False, True):
         for i, goal in enumerate(goals):
@@ -434,11 +486,14 @@ def solve(goals: list[Any]) -> Iterator[None]:
                     raise
                 if not late:
                     choices.append(i)
-                if asked is None:
+                if not by_goal:
                     forms = forms_of(stuck)
-                    asked = forms and (stuck.variable, forms)
-                    if asked and is_keyword(goal, stuck):
+                    if forms and is_keyword(goal, stuck):
+                        asked = stuck.variable, forms
                         break
+                    # what a relation goes on by comes before what a value is computed of
+                    if forms and (asked is None or peek(goal) is None):
+                        asked, by_goal = (stuck.variable, forms), peek(goal) is None
         else:
             continue
         break

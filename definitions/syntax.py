@@ -475,6 +475,7 @@ class Use:
 class Parametrised:
     """A record or a data type: its parameters, and the type of each field or constructor."""
     kind: str
+    name: str
     parameters: list[str]
     parts: list[tuple[str, Tree]] = field(default_factory=list)
     is_proposition: bool = False
@@ -578,7 +579,7 @@ class Module:
         """A record or a data type."""
         names = [each for group in re.findall(r'\(([^:()]*) :', parameters)
                  for each in group.split()]
-        found = Parametrised(kind, names)
+        found = Parametrised(kind, name, names)
         found.is_proposition = any(not re.match(r'Type \d', of) for of in
                                    re.findall(r'\([^:()]* : ((?:[^()]|\([^()]*\))*)\)', parameters))
         fields: list[str] = []

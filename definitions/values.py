@@ -283,6 +283,7 @@ def apply(f: Any, *xs: Any) -> Any:
 
 def field(v: Any, name: str) -> Any:
     """A field of a record, or an element of a pair by its position."""
+    global tentative
     v = walk(v)
     kind = type(v)
     if kind is tuple:
@@ -291,6 +292,7 @@ def field(v: Any, name: str) -> Any:
         if v.record is None:
             v.record = Open()
         bind(v, v.record)
+        tentative = True
         v = v.record
     return v[name]
 
@@ -318,6 +320,26 @@ def settle(v: Any) -> Any:
         return tuple(map(settle, v))
     if kind is Con and not v.done:
         return Con(v.name, tuple(map(settle, v.args)), True)
+    return v
+
+
+def closed(v: Any) -> Any:
+    """A value evaluated to its ends, in which nothing is unknown."""
+    v = settle(v)
+    todo = [v]
+    while todo:
+        x = todo.pop()
+        kind = type(x)
+        if kind is Var:
+            raise Stuck(x)
+        if kind is Cons and not x.done or kind is tuple:
+            todo += items(x) if kind is Cons else x
+        elif kind is Con:
+            todo += x.args
+        elif isinstance(x, dict):
+            todo += x.values()
+        elif kind is Cons and type(x.head) is not int:
+            todo += items(x)
     return v
 
 
