@@ -81,7 +81,7 @@ impl Usual {
             }
             Usual::LongFour => count_of(text, b':') == 0 && number_after(text, b'/') > 32,
             Usual::LongSix => count_of(text, b':') > 0 && number_after(text, b'/') > 128,
-            Usual::Scheme => text.windows(3).any(|part| part == b"://"),
+            Usual::Scheme => text.windows(3).any(|part| part == b"://".as_slice()),
             Usual::Subnet => count_of(text, b'/') > 0,
             Usual::Label => {
                 text.starts_with(b"onion:")
