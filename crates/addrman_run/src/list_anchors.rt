@@ -1,4 +1,4 @@
-//! `show --anchors`, the listing of a file of anchors; and `magic_of` a chain.
+//! `show --anchors`, the listing of a file of anchors.
 
 ghost use Rattle.addrman_run.specs.Anchors.{IsAnchorsText, ReportsAnchors};
 ghost use Rattle.addrman_run.specs.declared.input.Input.TheVariants as input;

@@ -1,5 +1,5 @@
 //! `Manager`: `apply` carries out a `Command` and answers a `Reply`, with a function for each
-//! command. Also `Memory`, the error of this crate when it is out of memory.
+//! command.
 
 ghost use Rattle.std.specs.Prelude.{◌≡◌, ◌+◌, ◌≤◌, ◌<◌, ◌^◌, IfOk, OnErr};
 ghost use Rattle.addr_codecs.specs.declared.message.TheConstants.{MAX_ENTRIES};

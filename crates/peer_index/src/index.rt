@@ -1,5 +1,4 @@
-//! `PeerIndex` over a slab and a map: `add`, `remove`, `find`, `get`, `set`, `at` and `swap`. Also
-//! `Memory`, the error of this crate when it is out of memory.
+//! `PeerIndex` over a slab and a map: `add`, `remove`, `find`, `get`, `set`, `at` and `swap`.
 
 ghost use Rattle.std.specs.Prelude.{◌≡◌};
 

@@ -141,6 +141,12 @@ pub fn kinds_are_enough()
 /// stays a bound. After the last refusal that is looked at, all searches that are left count as the
 /// set's, so it holds for any number of them. A pick that runs out of words returns no peer and
 /// counts for nobody.
+///
+/// An example: the new table has two records, of one bucket, that were never tried. Theirs is in
+/// slot 15 and the other's in slot 63, so 16 of the 64 starts of the bucket lead to theirs, and
+/// each word accepts either. So theirs is 16 / 64 of the picks from the new table, and U_new is
+/// 2^62 for a unit of 2^64. If the tried table has records, but none of theirs, U_tried is 0, and
+/// theirs is at most 2^62 / 2^65 of the picks from any table: one in eight.
 pub fn risks_are_bounded()
     ensures either { (st : State) (nets : List ℕ) (now unit ahead n : ℕ) (theirs : Peer → Bool) →
         IsSound st → 0 < wanted_new st nets → 0 < wanted_tried st nets →

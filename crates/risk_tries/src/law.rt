@@ -28,6 +28,11 @@ pub fn limits()
 /// waits for the 31st try, since no try is known after a restart; connections that fail; the limit
 /// of 100 tries; anchors, block-relay-only connections and feelers. Tables and time are the same in
 /// all tries.
+///
+/// An example: the tried table is empty, and the new one has eleven records in eleven buckets, each
+/// in a group of its own and without failures, ten of them in the set. Each has 1/11 of the picks.
+/// The first pick is one of the ten for 10/11 of the lists, the second of another group for 9/10 of
+/// those, and so on to 1/2 for the tenth: 1/11 in all. With nine of them in the set it is 0.
 pub fn tries_are_bounded()
     ensures part { (st : State) (now n m unit : ℕ) (theirs : Peer → Bool) (groups : List (List ℕ)) →
         IsSound st → AreGroupsOf st theirs groups →

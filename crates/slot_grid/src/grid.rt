@@ -1,5 +1,5 @@
 //! `Grid` reads and writes slots (`new_at`, `set_tried`, ..) and keeps a mask of occupied slots for
-//! each bucket. Also `Memory`, the error of this crate when it is out of memory.
+//! each bucket.
 
 ghost use Rattle.std.specs.Prelude.{◌≡◌, ◌≢◌, ℕ, ◌<◌, ◌≤◌, ◌+◌, ◌*◌, ◌==◌, None, Some, IfOk, All, vec_len, vec_capacity, length, set, map, get_or, slice_index_or};
 ghost use Rattle.std.specs.Int.{bit_at};

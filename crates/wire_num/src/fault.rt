@@ -1,5 +1,4 @@
-//! `WireFault`: the bytes end too early, or a CompactSize is longer than needed. Also `Memory`, the
-//! error of this crate when it is out of memory.
+//! `WireFault`: the bytes end too early, or a CompactSize is longer than needed.
 
 /// Why a field cannot be read.
 #[derive(Clone, Copy, Debug, PartialEq, Eq, Drop)]
