@@ -1,5 +1,5 @@
 use crate::in_order::{NO_ARGUMENT, is_dashed};
-use hints::{ANCHORS, Paths, expected_text};
+use hints::{ANCHORS, Paths, expected_text, tilde_hint};
 use host_io::Name;
 use std::alloc::{AllocError, Global};
 use std::fs::File;
@@ -37,6 +37,9 @@ static ASMAP_FILE: [&str; 11] = [
     "address",
 ];
 
+/// The commands that place the records of peers.dat under an asmap: the one beside it.
+static PLACING: [&str; 5] = ["picture", "raw", "info", "groups", "risk"];
+
 /// The commands that take `--bans FILE`.
 static BANS_FILE: [&str; 2] = ["banned", "bans"];
 
@@ -49,6 +52,8 @@ pub(crate) struct Given<'a> {
     pub words: Vec<String>,
     /// The files that are read in the place of those of the current folder.
     pub paths: Paths<'a>,
+    /// The asmap beside a named peers.dat in another folder, unless an option names an asmap.
+    pub beside: String,
     /// What is said of an option that the program takes itself, if its value is wrong. `run`
     /// refuses the arguments then.
     pub hint: String,
@@ -85,7 +90,7 @@ impl<'a> Given<'a> {
     /// Makes the arguments of a run: `help COMMAND` if an option asks for it, `version` for `-V`,
     /// and for `--key-file FILE` the key in the file, so that the list of processes doesn't have
     /// it. Options that name a file to be read are left out. The arguments are in the order of
-    /// `in_order`.
+    /// `put_in_order`.
     pub(crate) fn of<R: Files>(
         alloc: Global,
         rt: &R,
@@ -94,6 +99,7 @@ impl<'a> Given<'a> {
         let mut given = Given {
             words: Vec::new(alloc),
             paths: Paths::none(),
+            beside: String::new(alloc),
             hint: String::new(alloc),
         };
         let Some((command, rest)) = words.split_first() else {
@@ -127,7 +133,22 @@ impl<'a> Given<'a> {
         for word in rest {
             next = self.take(alloc, rt, command, next, word.as_str())?;
         }
-        self.place_anchors(alloc, rest)
+        self.place_anchors(alloc, rest)?;
+        if is_among(&PLACING, command) && self.paths.asmap.is_none() {
+            self.find_beside(alloc)?;
+        }
+        Ok(())
+    }
+
+    /// Finds the path of the asmap beside a named peers.dat, unless that is in the current folder.
+    fn find_beside(&mut self, alloc: Global) -> Result<(), AllocError> {
+        let Some(path) = self.paths.peers else {
+            return Ok(());
+        };
+        if let Some((folder, _)) = path.rsplit_once('/') {
+            self.beside = format!(in alloc; "{folder}/{}", Name::Asmap.file_name())?;
+        }
+        Ok(())
     }
 
     /// Has the folder's anchors.dat read, if no option names another file. The option comes once.
@@ -274,7 +295,8 @@ impl<'a> Given<'a> {
         match read_key(alloc, rt, path) {
             Ok(text) => self.add_digits(alloc, path, text),
             Err(error) => {
-                self.hint = format!(in alloc; "{path} cannot be read: {error}")?;
+                let tilde = tilde_hint(path);
+                self.hint = format!(in alloc; "{path} cannot be read: {error}{tilde}")?;
                 self.add(alloc, "--key-file")
             }
         }

@@ -98,7 +98,7 @@ fn put_position(
 
 /// Returns the command and its arguments in the order in which `run` takes them: the options that
 /// come first with their values, what is not an option, and the other options.
-pub(crate) fn in_order(alloc: Global, words: &[String]) -> Result<Vec<String>, AllocError> {
+pub(crate) fn put_in_order(alloc: Global, words: &[String]) -> Result<Vec<String>, AllocError> {
     let mut out = Vec::new(alloc);
     let Some((command, rest)) = words.split_first() else {
         return Ok(out);

@@ -64,7 +64,7 @@ fn put_lines(
         if facts.learned.is_key_unused() {
             put_line("the key given is not used: peers.dat has its own", text)?;
         }
-        let hint = sum_hint(alloc, facts.learned)?;
+        let hint = sum_hint(alloc, facts.learned, facts.paths)?;
         put_line(hint.as_str(), text)?;
     }
     if *status == Status::Done {
@@ -160,33 +160,38 @@ fn refused_hint(alloc: Global, fault: &PeersFault, head: &[u8]) -> Result<String
 }
 
 /// Returns what is said of the checksum of an asmap in peers.dat, if it is not that of the asmap in
-/// use.
-fn sum_hint(alloc: Global, learned: &Learned) -> Result<String, AllocError> {
-    let said = fit_text(learned.sum_fit());
+/// use. Both files are named.
+fn sum_hint(alloc: Global, learned: &Learned, paths: &Paths<'_>) -> Result<String, AllocError> {
+    let peers = paths.text_of(Name::Peers);
+    let asmap = paths.text_of(Name::Asmap);
+    let mut said = fit_text(alloc, learned.sum_fit(), peers, asmap)?;
     let count = learned.left_out();
-    if said.is_empty() || count == 0 {
-        return String::from_str(alloc, said);
+    if !said.is_empty() && count > 0 {
+        said.push_str(format!(in alloc; "; records left out: {count}")?.as_str())?;
     }
-    format!(in alloc; "{said}; records left out: {count}")
+    Ok(said)
 }
 
 /// Returns how the checksum of an asmap in peers.dat fits, or nothing if it is the same.
-fn fit_text(fit: SumFit) -> &'static str {
+fn fit_text(alloc: Global, fit: SumFit, peers: &str, asmap: &str) -> Result<String, AllocError> {
+    let anew = "its new records are re-bucketed";
     match fit {
-        SumFit::Same => "",
-        SumFit::Core =>
-            "peers.dat was written by Bitcoin Core with this asmap: use --core, or its new \
-             records are re-bucketed",
-        SumFit::Own =>
-            "peers.dat was written by addrman with this asmap: leave out --core, or its new \
-             records are re-bucketed",
-        SumFit::NoneThen =>
-            "peers.dat was written without an asmap: its new records are re-bucketed",
-        SumFit::NoneNow =>
-            "peers.dat was written with an asmap, and asmap.dat is missing: its new records are \
-             re-bucketed",
-        SumFit::Other =>
-            "peers.dat was written with another asmap: its new records are re-bucketed",
+        SumFit::Same => Ok(String::new(alloc)),
+        SumFit::Core => format!(in alloc;
+            "{peers} was written by Bitcoin Core with {asmap}: use --core, or {anew}"
+        ),
+        SumFit::Own => format!(in alloc;
+            "{peers} was written by addrman with {asmap}: leave out --core, or {anew}"
+        ),
+        SumFit::NoneThen => format!(in alloc;
+            "{peers} was written without an asmap, and {asmap} is used: {anew}"
+        ),
+        SumFit::NoneNow => format!(in alloc;
+            "{peers} was written with an asmap, and {asmap} is missing: {anew}"
+        ),
+        SumFit::Other => format!(in alloc;
+            "{peers} was written with another asmap than {asmap}: {anew}"
+        ),
     }
 }
 

@@ -1,4 +1,4 @@
-use crate::files::{PACKED, is_packed};
+use crate::files::packed_text;
 use crate::peers_dat::chain_of;
 use anchors::{AnchorCause, AnchorsFault, MAX_ANCHORS, MAX_FILE};
 use std::alloc::{AllocError, Global};
@@ -9,8 +9,8 @@ pub fn anchors_hint(
     fault: &AnchorsFault,
     head: &[u8],
 ) -> Result<String, AllocError> {
-    if is_packed(head) {
-        return String::from_str(alloc, PACKED);
+    if let Some(said) = packed_text(head) {
+        return String::from_str(alloc, said);
     }
     match fault {
         AnchorsFault::BadMagic => chain_text(alloc, head),

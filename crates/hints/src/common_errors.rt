@@ -7,6 +7,7 @@ enum Usual {
     Name,
     LongFour,
     LongSix,
+    Scheme,
     Subnet,
     Label,
     NoBrackets,
@@ -19,7 +20,7 @@ enum Usual {
 
 /// The errors, the texts in whose place they are looked for (`A` an address, `P` a peer, `S` a
 /// subnet, `N` a subnet after `--core`, `T` any text that `address` reads), and what is said.
-static USUAL: [(Usual, &str, &str); 15] = [
+static USUAL: [(Usual, &str, &str); 16] = [
     (Usual::Zone, "APSNT", "a zone such as %eth0 is not allowed"),
     (Usual::OldName, "APSNT", "Tor v2 names are no longer in use"),
     (
@@ -32,6 +33,11 @@ static USUAL: [(Usual, &str, &str); 15] = [
     (Usual::Label, "N", "with --core, write it as a name"),
     (Usual::LongFour, "SN", "an IPv4 prefix length is at most 32"),
     (Usual::LongSix, "SN", "an IPv6 prefix length is at most 128"),
+    (
+        Usual::Scheme,
+        "APSNT",
+        "leave out what comes before the address",
+    ),
     (Usual::Subnet, "APT", "an address cannot contain /"),
     (
         Usual::NoBrackets,
@@ -75,6 +81,7 @@ impl Usual {
             }
             Usual::LongFour => count_of(text, b':') == 0 && number_after(text, b'/') > 32,
             Usual::LongSix => count_of(text, b':') > 0 && number_after(text, b'/') > 128,
+            Usual::Scheme => text.windows(3).any(|part| part == b"://".as_slice()),
             Usual::Subnet => count_of(text, b'/') > 0,
             Usual::Label => {
                 text.starts_with(b"onion:")

@@ -18,6 +18,8 @@ pub struct Paths<'a> {
     pub asmap: Option<&'a str>,
     /// In the place of banlist.json.
     pub bans: Option<&'a str>,
+    /// Whether the asmap is the one beside peers.dat, which may be missing.
+    pub is_beside: bool,
     /// Whether what is read in the place of peers.dat is a file of anchors.
     pub has_anchors: bool,
     /// Whether the listing in standard input is read in the place of peers.dat.
@@ -31,6 +33,7 @@ impl<'a> Paths<'a> {
             peers: None,
             asmap: None,
             bans: None,
+            is_beside: false,
             has_anchors: false,
             has_listing: false,
         }
@@ -56,7 +59,7 @@ impl<'a> Paths<'a> {
     }
 
     /// Returns what a file is called in a text: its path, or its name in the current folder.
-    pub(crate) fn text_of(&self, name: Name) -> &'a str {
+    pub fn text_of(&self, name: Name) -> &'a str {
         match self.of(name) {
             Some(path) => path,
             None => name.file_name(),
@@ -64,12 +67,35 @@ impl<'a> Paths<'a> {
     }
 }
 
-/// What is said of a file that gzip packed.
-pub(crate) const PACKED: &str = "it is a gzip file: unpack it first";
+/// Says that a file is packed, if it begins as one of gzip (RFC 1952), xz, zip, zstd (RFC 8878) or
+/// bzip2.
+pub(crate) fn packed_text(bytes: &[u8]) -> Option<&'static str> {
+    if bytes.starts_with(b"\x1f\x8b") {
+        return Some("it is a gzip file: unpack it first");
+    }
+    if bytes.starts_with(b"\xfd7zXZ\x00") {
+        return Some("it is an xz file: unpack it first");
+    }
+    if bytes.starts_with(b"PK\x03\x04") {
+        return Some("it is a zip file: unpack it first");
+    }
+    if bytes.starts_with(b"\x28\xb5\x2f\xfd") {
+        return Some("it is a zstd file: unpack it first");
+    }
+    if bytes.starts_with(b"BZh") {
+        return Some("it is a bzip2 file: unpack it first");
+    }
+    None
+}
 
-/// Returns `true` if a file begins as one that gzip packed (RFC 1952).
-pub(crate) fn is_packed(bytes: &[u8]) -> bool {
-    bytes.starts_with(b"\x1f\x8b")
+/// Returns what is said of a path that begins with `~`, which the shell replaces only where an
+/// argument begins; nothing of another path.
+pub fn tilde_hint(path: &str) -> &'static str {
+    if path.starts_with("~") {
+        ": write a space instead of =, so that the shell expands ~"
+    } else {
+        ""
+    }
 }
 
 /// What is said of a text that begins with a byte order mark.
@@ -89,8 +115,8 @@ const NO_ANCHORS: &str =
 
 /// Says why an asmap is refused, which begins with these bytes.
 pub fn asmap_hint(alloc: Global, fault: &CodeFault, head: &[u8]) -> Result<String, AllocError> {
-    if is_packed(head) {
-        return String::from_str(alloc, PACKED);
+    if let Some(said) = packed_text(head) {
+        return String::from_str(alloc, said);
     }
     match fault {
         CodeFault::TooLarge { size } => {
@@ -133,15 +159,15 @@ pub fn bans_hint(alloc: Global, fault: &BanFault, text: &[u8]) -> Result<String,
 
 /// Says why a text is no JSON. `expected` says what it has to be.
 pub(crate) fn json_hint(alloc: Global, text: &[u8], expected: &str) -> Result<String, AllocError> {
-    if is_packed(text) {
-        return String::from_str(alloc, PACKED);
+    if let Some(said) = packed_text(text) {
+        return String::from_str(alloc, said);
     }
     if is_marked(text) {
         return String::from_str(alloc, MARKED);
     }
     match Value::from_slice(alloc, text) {
         Err(error) => {
-            let (line, column) = (error.line(), error.column());
+            let (line, column) = (error.line(), error.column().max(1));
             format!(in alloc; "line {line}, column {column}: not JSON; {expected}")
         }
         Ok(_) => Ok(String::new(alloc)),
@@ -154,6 +180,10 @@ pub fn missing_hint(alloc: Global, name: Name, paths: &Paths<'_>) -> Result<Stri
         let replaced = paths.replaced(name);
         if path == replaced {
             return String::from_str(alloc, NO_ANCHORS);
+        }
+        let tilde = tilde_hint(path);
+        if !tilde.is_empty() {
+            return format!(in alloc; "{path} is missing{tilde}");
         }
         return format!(in alloc; "{path} is missing: it was given instead of {replaced}");
     }

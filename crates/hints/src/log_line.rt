@@ -27,11 +27,10 @@ pub fn line_hint(
     if command == b"risk".as_slice() {
         return set_hint(alloc, line);
     }
-    let fields = fields_of(alloc, line)?;
     if command == b"lookup".as_slice() || command == b"address".as_slice() {
-        let wrong = explain(alloc, Reader::Arguments, command, fields.as_slice())?;
-        return Ok(wrong.text);
+        return address_hint(alloc, command, line);
     }
+    let fields = fields_of(alloc, line)?;
     let Some(reader) = Reader::of_log(command) else {
         return Ok(String::new(alloc));
     };
@@ -41,6 +40,21 @@ pub fn line_hint(
     let wrong = explain(alloc, reader, *keyword, rest)?;
     let column = column_of(fields.as_slice(), wrong.index);
     format!(in alloc; "column {column}: {}", wrong.text.as_str())
+}
+
+/// Says what is wrong with a line for `lookup -` or `address -`, which has one address.
+fn address_hint(alloc: Global, command: &[u8], line: &[u8]) -> Result<String, AllocError> {
+    let space = line.iter().position(|byte| *byte == b' ');
+    match space {
+        Some(index) if command == b"lookup".as_slice() => {
+            let column = index.saturating_add(1);
+            format!(in alloc; "column {column}: expected one peer per line, without spaces")
+        }
+        _ => {
+            let wrong = explain(alloc, Reader::Arguments, command, &[line])?;
+            format!(in alloc; "column 1: {}", wrong.text.as_str())
+        }
+    }
 }
 
 /// What is said of a set of addresses.

@@ -1,4 +1,4 @@
-use crate::files::{PACKED, is_packed};
+use crate::files::packed_text;
 use net_addr::put_hex;
 use peer_rec::{MAX_BUCKETS, MAX_NEW, MAX_TRIED};
 use peers_file::{FileFault, MAX_FILE, RecordCause, Which};
@@ -17,8 +17,8 @@ pub(crate) static CHAINS: [([u8; 4], &str); 5] = [
 /// Says what is wrong with peers.dat, which begins with these bytes: which chain and which format
 /// it has, and the fault.
 pub fn peers_hint(alloc: Global, fault: &FileFault, head: &[u8]) -> Result<String, AllocError> {
-    if is_packed(head) {
-        return String::from_str(alloc, PACKED);
+    if let Some(said) = packed_text(head) {
+        return String::from_str(alloc, said);
     }
     let mut text = head_text(alloc, head)?;
     text.push_str(fault_text(alloc, fault, head)?.as_str())?;

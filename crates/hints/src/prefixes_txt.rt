@@ -1,5 +1,5 @@
 use crate::common_errors::usual_error;
-use crate::files::{MARKED, PACKED, is_marked, is_packed};
+use crate::files::{MARKED, is_marked, packed_text};
 use crate::keyword_fields::expected_text;
 use crate::quoting::quoted;
 use ban_list::{parse_subnet, put_subnet};
@@ -12,8 +12,8 @@ const MAX_ROW: usize = 1000;
 
 /// Says what is wrong with prefixes.txt, which has this text and this fault.
 pub fn table_hint(alloc: Global, fault: &TableFault, text: &[u8]) -> Result<String, AllocError> {
-    if is_packed(text) {
-        return String::from_str(alloc, PACKED);
+    if let Some(said) = packed_text(text) {
+        return String::from_str(alloc, said);
     }
     match fault {
         TableFault::Form { line } | TableFault::Number { line } => {

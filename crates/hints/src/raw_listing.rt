@@ -1,4 +1,4 @@
-use crate::files::{PACKED, is_packed, json_hint};
+use crate::files::{json_hint, packed_text};
 use raw_file::ListingFault;
 use raw_read::{Field, MAX_TEXT, RawFault};
 use std::alloc::{AllocError, Global};
@@ -29,8 +29,8 @@ pub fn listing_hint(
 
 /// Says why a text is no JSON, or nests too deep.
 fn no_json(alloc: Global, text: &[u8]) -> Result<String, AllocError> {
-    if is_packed(text) {
-        return String::from_str(alloc, PACKED);
+    if let Some(said) = packed_text(text) {
+        return String::from_str(alloc, said);
     }
     json_hint(alloc, text, LISTING)
 }
