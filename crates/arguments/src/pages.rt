@@ -14,7 +14,7 @@ compile, ban or unban in a running node's directory: they replace its files.
 ";
 
 pub(crate) const REPLAY: Page = (
-    "replay [--key HEX64] [--net CHAIN] [--core]",
+    "replay [--key HEX64|--key-file FILE] [--net CHAIN] [--core]",
     "replays a log from standard input on the tables of peers.dat",
     "\
 Reads    a log from standard input; asmap.dat and peers.dat, if present.
@@ -24,6 +24,7 @@ HEX64    the node's key, 64 hexadecimal digits; needed only if there is no peers
 CHAIN    main (the default), test, testnet4, signet or regtest. For another chain, give
          --magic HEX8 instead: the 8 hexadecimal digits that its files begin with.
 --core   computes the asmap checksum in peers.dat as Bitcoin Core 24 to 30 does.
+-C DIR   before the command: the directory of its files.
 Codes    0 done, 2 bad usage, 3 a line has an error, 4 peers.dat is refused, 5 asmap.dat
          is refused, 7 the log cannot be read, 8 the output cannot be written, 9 a file
          cannot be read or written, 10 the log is too long, 11 no peers.dat and no key,
@@ -32,7 +33,7 @@ Codes    0 done, 2 bad usage, 3 a line has an error, 4 peers.dat is refused, 5 a
 );
 
 pub(crate) const OPENER: Page = (
-    "opener [--key HEX64] [--net CHAIN] [--core] [--exempt NETS] [--services N] \
+    "opener [--key HEX64|--key-file FILE] [--net CHAIN] [--core] [--exempt NETS] [--services N] \
      [--skip-bad-ports]",
     "replays a log without saving, and decides which peers to connect to",
     "\
@@ -48,7 +49,8 @@ NETS     networks in which each address is a group of its own, such as onion,i2p
 N        service bits that an outbound peer must have, such as 9; a feeler's peer must
          have 1 or 1024.
 --skip-bad-ports   skips IPv4 and IPv6 peers on the port of another service, such as 22,
-         before the 50th try.
+         before the 50th attempt.
+-C DIR   before the command: the directory of its files.
 Codes    0 done, 2 bad usage, 3 a line has an error, 4 peers.dat is refused, 5 asmap.dat
          is refused, 7 the log cannot be read, 8 the output cannot be written, 9 a file
          cannot be read or written, 10 the log is too long, 11 no peers.dat and no key,
@@ -69,7 +71,7 @@ Codes    0 done, 2 bad usage, 3 a line has an error, 7 the log cannot be read, 8
 );
 
 pub(crate) const SHOW: Page = (
-    "show [--anchors] [--net CHAIN] [--no-key] [--core]",
+    "show [--peers FILE|--anchors [FILE]] [--net CHAIN] [--no-key] [--core]",
     "lists the key and the records of peers.dat",
     "\
 Reads    peers.dat; with --anchors, anchors.dat instead.
@@ -80,6 +82,7 @@ CHAIN    main (the default), test, testnet4, signet or regtest. For another chai
 FILE     --peers FILE is read instead of peers.dat, and --anchors FILE instead of
          anchors.dat. --anchors can be combined with a chain only.
 --core   has no effect here: no asmap checksum is compared.
+-C DIR   before the command: the directory of its files.
 Codes    0 done, 2 bad usage, 4 peers.dat is refused, 8 the output cannot be written, 9 a
          file cannot be read or written, 12 out of memory, 14 peers.dat or anchors.dat is
          missing, 21 anchors.dat is refused.
@@ -87,7 +90,8 @@ Codes    0 done, 2 bad usage, 4 peers.dat is refused, 8 the output cannot be wri
 );
 
 pub(crate) const PICTURE: Page = (
-    "picture [--by HOW] [--net CHAIN] [--core|--raw -] [--mark SET..]",
+    "picture [--by HOW|--mark SET..] [--net CHAIN] [--core|--raw -] [--peers FILE] \
+     [--asmap FILE]",
     "draws the tables of peers.dat as an SVG image",
     "\
 Reads    peers.dat; asmap.dat, if present.
@@ -100,10 +104,12 @@ SET      a prefix such as 1.2.0.0/16 or 2001:db8::/32, an address, or an AS numb
          --mark cannot be combined with --by.
 CHAIN    main (the default), test, testnet4, signet or regtest. For another chain, give
          --magic HEX8 instead: the 8 hexadecimal digits that its files begin with.
-FILE     --peers FILE and --asmap FILE are read instead of peers.dat and asmap.dat.
+FILE     --peers FILE is read instead of peers.dat, with the asmap.dat in its directory,
+         if present; --asmap FILE is read instead of asmap.dat.
 --raw -  reads the output of raw or getrawaddrman from standard input instead of
          peers.dat; cannot be combined with --core or --peers.
 --core   computes the asmap checksum in peers.dat as Bitcoin Core 24 to 30 does.
+-C DIR   before the command: the directory of its files.
 Codes    0 done, 2 bad usage, 4 peers.dat is refused, 5 asmap.dat is refused, 7 the log
          cannot be read, 8 the output cannot be written, 9 a file cannot be read or
          written, 12 out of memory, 14 peers.dat is missing, 20 the listing is refused.
@@ -111,15 +117,17 @@ Codes    0 done, 2 bad usage, 4 peers.dat is refused, 5 asmap.dat is refused, 7 
 );
 
 pub(crate) const RAW: Page = (
-    "raw [--net CHAIN] [--core]",
+    "raw [--net CHAIN] [--core] [--peers FILE] [--asmap FILE]",
     "prints the records of peers.dat by slot, as JSON",
     "\
 Reads    peers.dat; asmap.dat, if present.
 Writes   JSON in the form that Bitcoin Core's getrawaddrman returns.
 CHAIN    main (the default), test, testnet4, signet or regtest. For another chain, give
          --magic HEX8 instead: the 8 hexadecimal digits that its files begin with.
-FILE     --peers FILE and --asmap FILE are read instead of peers.dat and asmap.dat.
+FILE     --peers FILE is read instead of peers.dat, with the asmap.dat in its directory,
+         if present; --asmap FILE is read instead of asmap.dat.
 --core   computes the asmap checksum in peers.dat as Bitcoin Core 24 to 30 does.
+-C DIR   before the command: the directory of its files.
 Codes    0 done, 2 bad usage, 4 peers.dat is refused, 5 asmap.dat is refused, 8 the output
          cannot be written, 9 a file cannot be read or written, 12 out of memory,
          14 peers.dat is missing.
@@ -127,17 +135,19 @@ Codes    0 done, 2 bad usage, 4 peers.dat is refused, 5 asmap.dat is refused, 8 
 );
 
 pub(crate) const INFO: Page = (
-    "info [--net CHAIN] [--core|--raw -]",
+    "info [--net CHAIN] [--core|--raw -] [--peers FILE] [--asmap FILE]",
     "prints how many records of each network are in peers.dat, as JSON",
     "\
 Reads    peers.dat; asmap.dat, if present.
 Writes   JSON in the form that Bitcoin Core's getaddrmaninfo returns.
 CHAIN    main (the default), test, testnet4, signet or regtest. For another chain, give
          --magic HEX8 instead: the 8 hexadecimal digits that its files begin with.
-FILE     --peers FILE and --asmap FILE are read instead of peers.dat and asmap.dat.
+FILE     --peers FILE is read instead of peers.dat, with the asmap.dat in its directory,
+         if present; --asmap FILE is read instead of asmap.dat.
 --raw -  reads the output of raw or getrawaddrman from standard input instead of
          peers.dat; cannot be combined with --core or --peers.
 --core   computes the asmap checksum in peers.dat as Bitcoin Core 24 to 30 does.
+-C DIR   before the command: the directory of its files.
 Codes    0 done, 2 bad usage, 4 peers.dat is refused, 5 asmap.dat is refused, 7 the log
          cannot be read, 8 the output cannot be written, 9 a file cannot be read or
          written, 12 out of memory, 14 peers.dat is missing, 20 the listing is refused.
@@ -145,7 +155,7 @@ Codes    0 done, 2 bad usage, 4 peers.dat is refused, 5 asmap.dat is refused, 7 
 );
 
 pub(crate) const GROUPS: Page = (
-    "groups [--net CHAIN] [--core|--raw -]",
+    "groups [--net CHAIN] [--core|--raw -] [--peers FILE] [--asmap FILE]",
     "prints how much of peers.dat each group takes up, as JSON",
     "\
 Reads    peers.dat; asmap.dat, if present.
@@ -154,10 +164,12 @@ Writes   the slots, buckets and records of each group; totals; how many AS numbe
          chances of being picked: risk prints those.
 CHAIN    main (the default), test, testnet4, signet or regtest. For another chain, give
          --magic HEX8 instead: the 8 hexadecimal digits that its files begin with.
-FILE     --peers FILE and --asmap FILE are read instead of peers.dat and asmap.dat.
+FILE     --peers FILE is read instead of peers.dat, with the asmap.dat in its directory,
+         if present; --asmap FILE is read instead of asmap.dat.
 --raw -  reads the output of raw or getrawaddrman from standard input instead of
          peers.dat; cannot be combined with --core or --peers.
 --core   computes the asmap checksum in peers.dat as Bitcoin Core 24 to 30 does.
+-C DIR   before the command: the directory of its files.
 Codes    0 done, 2 bad usage, 4 peers.dat is refused, 5 asmap.dat is refused, 7 the log
          cannot be read, 8 the output cannot be written, 9 a file cannot be read or
          written, 12 out of memory, 14 peers.dat is missing, 20 the listing is refused.
@@ -165,7 +177,8 @@ Codes    0 done, 2 bad usage, 4 peers.dat is refused, 5 asmap.dat is refused, 7 
 );
 
 pub(crate) const RISK: Page = (
-    "risk source|peer|network|- [--net CHAIN] [--core|--raw -]",
+    "risk source|peer|network|- [--net CHAIN] [--core|--raw -] [--peers FILE] \
+     [--asmap FILE]",
     "prints an upper bound on each group's share of the picks from peers.dat",
     "\
 Reads    peers.dat; asmap.dat, if present; with -, prefixes and AS numbers from standard
@@ -182,12 +195,14 @@ network  groups them by the network of the peer's address.
          connections go to their peers, if every peer that is picked can be reached.
 CHAIN    main (the default), test, testnet4, signet or regtest. For another chain, give
          --magic HEX8 instead: the 8 hexadecimal digits that its files begin with.
-FILE     --peers FILE and --asmap FILE are read instead of peers.dat and asmap.dat.
+FILE     --peers FILE is read instead of peers.dat, with the asmap.dat in its directory,
+         if present; --asmap FILE is read instead of asmap.dat.
 --raw -  reads the output of raw or getrawaddrman from standard input instead of
          peers.dat; cannot be combined with -, --core or --peers. A listing does not
          record failed attempts: the shares are computed as if there were none, and are
          not bounds for a node that has failed to reach some peers.
 --core   computes the asmap checksum in peers.dat as Bitcoin Core 24 to 30 does.
+-C DIR   before the command: the directory of its files.
 Codes    0 done, 2 bad usage, 3 a line has an error, 4 peers.dat is refused, 5 asmap.dat
          is refused, 7 the log cannot be read, 8 the output cannot be written, 9 a file
          cannot be read or written, 10 the log is too long, 12 out of memory, 13 a line is
@@ -196,7 +211,7 @@ Codes    0 done, 2 bad usage, 3 a line has an error, 4 peers.dat is refused, 5 a
 );
 
 pub(crate) const FROM_RAW: Page = (
-    "from-raw --key HEX64 [--net CHAIN] [--core]",
+    "from-raw --key HEX64|--key-file FILE [--net CHAIN] [--core] [--asmap FILE]",
     "makes a peers.dat from the output of raw or getrawaddrman",
     "\
 Reads    a listing of at most 67108864 bytes from standard input; asmap.dat, if present.
@@ -208,6 +223,7 @@ CHAIN    main (the default), test, testnet4, signet or regtest. For another chai
          --magic HEX8 instead: the 8 hexadecimal digits that its files begin with.
 FILE     --asmap FILE is read instead of asmap.dat.
 --core   writes the asmap checksum as Bitcoin Core 24 to 30 does.
+-C DIR   before the command: the directory of its files.
 Codes    0 done, 2 bad usage, 5 asmap.dat is refused, 7 the log cannot be read, 8 the
          output cannot be written, 9 a file cannot be read or written, 12 out of memory,
          20 the listing is refused.
@@ -220,18 +236,20 @@ pub(crate) const COMPILE: Page = (
     "\
 Reads    prefixes.txt.
 Writes   asmap.dat (via asmap.tmp), and then a line with its size.
+-C DIR   before the command: the directory of its files.
 Codes    0 done, 2 bad usage, 6 prefixes.txt is refused, 8 the output cannot be written,
          9 a file cannot be read or written, 12 out of memory, 14 prefixes.txt is missing.
 ",
 );
 
 pub(crate) const DECOMPILE: Page = (
-    "decompile",
+    "decompile [--asmap FILE]",
     "prints the table of prefixes that asmap.dat encodes",
     "\
 Reads    asmap.dat.
 Writes   rows in the form of prefixes.txt.
 FILE     --asmap FILE is read instead of asmap.dat.
+-C DIR   before the command: the directory of its files.
 Codes    0 done, 2 bad usage, 5 asmap.dat is refused, 8 the output cannot be written, 9 a
          file cannot be read or written, 12 out of memory, 14 asmap.dat is missing, 17 it
          has more than 2,000,000 rows.
@@ -239,7 +257,7 @@ Codes    0 done, 2 bad usage, 5 asmap.dat is refused, 8 the output cannot be wri
 );
 
 pub(crate) const DIFF: Page = (
-    "diff [--peers [--net CHAIN] [--core]]",
+    "diff [--peers [FILE] [--net CHAIN] [--core]] [--asmap FILE]",
     "prints the prefixes whose AS number differs between asmap.old and asmap.dat",
     "\
 Reads    asmap.old and asmap.dat; with --peers, also peers.dat.
@@ -249,6 +267,7 @@ CHAIN    main (the default), test, testnet4, signet or regtest. For another chai
          --magic HEX8 instead: the 8 hexadecimal digits that its files begin with.
 FILE     --peers FILE and --asmap FILE are read instead of peers.dat and asmap.dat.
 --core   has no effect here: no asmap checksum is compared.
+-C DIR   before the command: the directory of its files.
 Codes    0 done, 2 bad usage, 4 peers.dat is refused, 5 asmap.dat is refused, 8 the output
          cannot be written, 9 a file cannot be read or written, 12 out of memory, 14 a
          file is missing, 18 asmap.old is refused, 19 more than 2,000,000 prefixes differ.
@@ -256,19 +275,20 @@ Codes    0 done, 2 bad usage, 4 peers.dat is refused, 5 asmap.dat is refused, 8 
 );
 
 pub(crate) const CHECK: Page = (
-    "check",
+    "check [--asmap FILE]",
     "checks that asmap.dat is sane",
     "\
 Reads    asmap.dat.
 Writes   a line with its size.
 FILE     --asmap FILE is read instead of asmap.dat.
+-C DIR   before the command: the directory of its files.
 Codes    0 done, 2 bad usage, 5 asmap.dat is refused, 8 the output cannot be written, 9 a
          file cannot be read or written, 12 out of memory, 14 asmap.dat is missing.
 ",
 );
 
 pub(crate) const LOOKUP: Page = (
-    "lookup PEER|-",
+    "lookup PEER|- [--asmap FILE]",
     "prints the AS number and the group of an address, or of each address on standard input",
     "\
 Reads    asmap.dat; with -, also standard input, with one PEER per line.
@@ -276,6 +296,7 @@ Writes   a line for each address: its AS number (0 if asmap.dat gives none) and 
          in hexadecimal.
 PEER     an address with a port, such as 1.2.3.4:8333 or [2001:470::1]:8333.
 FILE     --asmap FILE is read instead of asmap.dat.
+-C DIR   before the command: the directory of its files.
 Codes    0 done, 2 bad usage, 3 a line has an error, 5 asmap.dat is refused, 7 the log
          cannot be read, 8 the output cannot be written, 9 a file cannot be read or
          written, 10 the log is too long, 12 out of memory, 13 a line is too long,
@@ -284,7 +305,7 @@ Codes    0 done, 2 bad usage, 3 a line has an error, 5 asmap.dat is refused, 7 t
 );
 
 pub(crate) const ADDRESS: Page = (
-    "address TEXT|-",
+    "address TEXT|- [--asmap FILE]",
     "prints what is known about an address",
     "\
 Reads    asmap.dat, if present; with -, also standard input, with one TEXT per line.
@@ -293,6 +314,7 @@ Writes   the network, address, name, class, whether it is routable, the AS numbe
 TEXT     a name such as pg6m..ryd.onion or 2001:470::1, or an address as logs write it,
          such as [2001:470::1], with or without a port.
 FILE     --asmap FILE is read instead of asmap.dat.
+-C DIR   before the command: the directory of its files.
 Codes    0 done, 2 bad usage, 3 a line has an error, 5 asmap.dat is refused, 7 the log
          cannot be read, 8 the output cannot be written, 9 a file cannot be read or
          written, 10 the log is too long, 12 out of memory, 13 a line is too long.
@@ -311,6 +333,7 @@ NOW      when the ban begins, in seconds since 1970 (`date +%s`); UNTIL, when it
          a later time.
 --core   reads and writes banlist.json as Bitcoin Core does: addresses of Tor v3, I2P and
          CJDNS are names, and elements that are not bans stay in the file.
+-C DIR   before the command: the directory of its files.
 Codes    0 done, 2 bad usage, 8 the output cannot be written, 9 a file cannot be read or
          written, 12 out of memory, 16 banlist.json is refused.
 ",
@@ -325,37 +348,40 @@ Writes   banlist.json (via banlist.tmp) and `removed`; or only `absent`.
 SUBNET   an address without port or brackets, such as 1.2.3.4 or 1.2.3.0/24.
 --core   reads and writes banlist.json as Bitcoin Core does: addresses of Tor v3, I2P and
          CJDNS are names, and elements that are not bans stay in the file.
+-C DIR   before the command: the directory of its files.
 Codes    0 done, 2 bad usage, 8 the output cannot be written, 9 a file cannot be read or
          written, 12 out of memory, 16 banlist.json is refused.
 ",
 );
 
 pub(crate) const BANNED: Page = (
-    "banned PEER NOW [--core]",
+    "banned PEER NOW [--core] [--bans FILE]",
     "prints the ban that covers an address, or `free`",
     "\
 Reads    banlist.json, if present.
 Writes   `banned`, the subnet and the time when the ban ends; or `free`.
 PEER     an address with a port, such as 1.2.3.4:8333 or [2001:470::1]:8333.
 NOW      the time to test the bans at, in seconds since 1970 (`date +%s`).
-FILE     --bans FILE is read in the place of banlist.json.
+FILE     --bans FILE is read instead of banlist.json.
 --core   reads banlist.json as Bitcoin Core does: addresses of Tor v3, I2P and CJDNS are
          names.
+-C DIR   before the command: the directory of its files.
 Codes    0 done, 2 bad usage, 8 the output cannot be written, 9 a file cannot be read or
          written, 12 out of memory, 16 banlist.json is refused.
 ",
 );
 
 pub(crate) const BANS: Page = (
-    "bans NOW [--core]",
+    "bans NOW [--core] [--bans FILE]",
     "prints the bans still in force, as JSON",
     "\
 Reads    banlist.json, if present.
 Writes   JSON in the form that Bitcoin Core's listbanned returns.
 NOW      the time to test the bans at, in seconds since 1970 (`date +%s`).
-FILE     --bans FILE is read in the place of banlist.json.
+FILE     --bans FILE is read instead of banlist.json.
 --core   reads banlist.json as Bitcoin Core does: addresses of Tor v3, I2P and CJDNS are
          names.
+-C DIR   before the command: the directory of its files.
 Codes    0 done, 2 bad usage, 8 the output cannot be written, 9 a file cannot be read or
          written, 12 out of memory, 16 banlist.json is refused.
 ",
