@@ -223,12 +223,12 @@ def sum_said(file: peers_file.PeersFile, asmap: Asmap, core: bool) -> str:
     if asmap.data is None:
         return f"peers.dat was written with an asmap, and asmap.dat is missing: {anew}"
     if file.sum == peers_file.NO_SUM:
-        return f"peers.dat was written without an asmap: {anew}"
+        return f"peers.dat was written without an asmap, and asmap.dat is used: {anew}"
     if file.sum != peers_file.asmap_sum_of(asmap, not core):
-        return f"peers.dat was written with another asmap: {anew}"
+        return f"peers.dat was written with another asmap than asmap.dat: {anew}"
     if core:
-        return f"peers.dat was written by addrman with this asmap: leave out --core, or {anew}"
-    return f"peers.dat was written by Bitcoin Core with this asmap: use --core, or {anew}"
+        return f"peers.dat was written by addrman with asmap.dat: leave out --core, or {anew}"
+    return f"peers.dat was written by Bitcoin Core with asmap.dat: use --core, or {anew}"
 
 
 def looked_up(peer: Peer, asmap: Asmap) -> str:

@@ -14,6 +14,8 @@ OTHER_FILES = {"--peers": ("peers.dat", "show picture raw info groups risk diff"
                "--anchors": ("anchors.dat", ["show"])}
 # The options of a command that may lack their file.
 MAY_LACK = {("diff", "--peers"), ("show", "--anchors")}
+# The commands that place records under the asmap beside the file of peers.
+PLACING = "picture raw info groups risk".split()
 NO_ARGUMENT = "--"
 ANY_NUMBER = 1 << 64
 OTHERS = ""
@@ -86,7 +88,7 @@ def in_order(command: str, words: list[str]) -> list[str]:
     return [word for own in found.values() for word in own]
 
 
-def without_files(command: str, words: list[str], paths: dict[str, str]) -> list[str]:
+def without_files(command: str, words: list[str], paths: dict[str, str | None]) -> list[str]:
     """Arguments without the options that name a file; their paths go to `paths`. An option that may lack its file stays, `--anchors` as the
     first one."""
     found, rest = [], list(words)
@@ -110,8 +112,15 @@ def without_files(command: str, words: list[str], paths: dict[str, str]) -> list
     return found
 
 
-def plain_words(arguments: list[str], paths: dict[str, str]) -> list[str]:
-    """The arguments of the run. The paths of files that are read in the place of others go to `paths`."""
+def asmap_beside(peers: str) -> str | None:
+    """The path of the asmap in the folder of a file of peers; None if there is none."""
+    path = peers.rpartition("/")[0] + "/asmap.dat" if "/" in peers else "asmap.dat"
+    return path if os.path.exists(path) else None
+
+
+def plain_words(arguments: list[str], paths: dict[str, str | None]) -> list[str]:
+    """The arguments of the run. The paths of files that are read in the place of others go to `paths`, None for a file that is not
+    there."""
     if not arguments:
         return arguments
     command, *rest = arguments
@@ -132,4 +141,6 @@ def plain_words(arguments: list[str], paths: dict[str, str]) -> list[str]:
         words.insert(0, "--anchors")
     if asks_anchors and "peers.dat" in paths:
         words.append(NO_ARGUMENT)
+    if command in PLACING and "peers.dat" in paths and "asmap.dat" not in paths:
+        paths["asmap.dat"] = asmap_beside(paths["peers.dat"])
     return [command, *words]

@@ -21,7 +21,7 @@ pub fn failure_hint(
     }
     let name = match failure.name {
         Some(name) => paths.text_of(name),
-        None => "the folder",
+        None => "the directory",
     };
     if failure.error.kind() == ErrorKind::InvalidInput {
         return format!(in alloc; "{name} is not a regular file");

@@ -108,7 +108,7 @@ fn other_count(
         return String::from_str(alloc, "limit reads its log from standard input: use < FILE");
     }
     if has_empty(fields) {
-        return format!(in alloc; "expected one space before each field, as in \"{form}\"");
+        return format!(in alloc; "expected one space before each field: \"{form}\"");
     }
     let what = if reader == Reader::Arguments || reader == Reader::CoreBans {
         "arguments"
