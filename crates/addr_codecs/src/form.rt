@@ -5,7 +5,7 @@ ghost use Rattle.addr_codecs.specs.Inside.{CanWrite, entry_at, text_in};
 
 use crate::entry::{take_addr_entry, take_addrv2_entry};
 use crate::fault::MsgFault;
-use crate::memory::Memory;
+use crate::Memory;
 use crate::writing::{put_addr_entry, put_addrv2_entry};
 use net_addr::Entry;
 

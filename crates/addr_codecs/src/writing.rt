@@ -9,7 +9,7 @@ ghost use Rattle.addr_codecs.specs.Texts.{addr_entry_text, addrv2_entry_text, ad
 ghost use Rattle.addr_codecs.specs.declared.message.TheConstants.{MAX_ENTRIES};
 
 use crate::form::Form;
-use crate::memory::Memory;
+use crate::Memory;
 use host_io::Bytes;
 use net_addr::{Entry, INTERNAL_PREFIX, MAPPED_PREFIX, Net, NetAddr};
 use std::alloc::Global;

@@ -3,7 +3,7 @@ ghost use Rattle.bit_code.specs.Coder.{HasValue, spelling};
 ghost use Rattle.bit_code.specs.Files.{IsFileOf};
 
 use crate::coder::Coder;
-use crate::memory::Memory;
+use crate::Memory;
 use crate::packing::{cat_bits, closed, make_room, prepend_bits, shift_in};
 use crate::spelled::spell;
 use std::alloc::Global;

@@ -3,7 +3,7 @@ ghost use Rattle.bit_code.specs.Coder.{HasValue, spelling};
 ghost use Rattle.bit_code.specs.Files.{IsFileOf};
 
 use crate::coder::Coder;
-use crate::memory::Memory;
+use crate::Memory;
 use crate::packing::{append_bits, append_bytes, cat_bits, closed, make_room};
 use crate::spelled::spell;
 use std::alloc::Global;

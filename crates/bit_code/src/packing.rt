@@ -2,7 +2,7 @@ ghost use Rattle.std.specs.Prelude.{◌≡◌, ◌+◌, ◌-◌, ◌*◌, ◌/�
 ghost use Rattle.bit_code.specs.Coder.{file_bits, low_digits};
 ghost use Rattle.bit_code.specs.Files.{IsFileOf};
 
-use crate::memory::Memory;
+use crate::Memory;
 
 /// The maximum number of bytes of a list of bits. With more, the number of bits would not fit a
 /// `usize`.

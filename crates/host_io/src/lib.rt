@@ -34,11 +34,12 @@ mod source;
 
 pub use call::{Action, Call};
 pub use dir_folder::{DirFolder, Lock};
-pub use failed::{Failed, Failure, Memory, ReadFault, Tried, still_count_has_not_risen};
+pub use failed::{Failed, Failure, ReadFault, Tried, still_count_has_not_risen};
 pub use folder::{Folder, SureFolder};
 pub use lines::{LINE_FEED, is_passed_over, split_line};
 pub use list::{Bytes, ListOf};
 pub use mem_folder::MemFolder;
+pub use memory::Memory;
 pub use name::{NAMES, Name, PerName};
 pub use reading::{PIECE, read_past, room};
 pub use sink::{MemSink, Sink, StdSink, SureSink, write_all};

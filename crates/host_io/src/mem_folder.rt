@@ -9,11 +9,12 @@ ghost use Rattle.host_io.specs.declared.call.Change.TheVariants as change;
 ghost use Rattle.host_io.specs.declared.name.Name.{Name};
 
 use crate::call::{Action, Call, Change};
-use crate::failed::{Failed, Memory, fault};
+use crate::failed::{Failed, fault};
 use crate::folder::Folder;
 use crate::list::Bytes;
 use crate::mem_disk::MemDisk;
 use crate::name::{Name, PerName};
+use memory::Memory;
 use std::alloc::Global;
 use std::marker::Model;
 

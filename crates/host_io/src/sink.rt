@@ -3,7 +3,8 @@ ghost use Rattle.host_io.specs.Faults.{Rose, raised};
 ghost use Rattle.host_io.specs.Writing.{Appended, AppendedPart};
 ghost use Rattle.host_io.specs.MemSink.{sink_after_write, sink_after_fault, sink_after_no_memory};
 
-use crate::failed::{Failed, FailingCalls, Memory, fault};
+use crate::failed::{Failed, FailingCalls, fault};
+use memory::Memory;
 use std::alloc::Global;
 use std::io;
 use std::io::{ErrorKind, Write};

@@ -2,7 +2,8 @@ ghost use Rattle.std.specs.Prelude.{◌≡◌, ℕ, ◌<◌, ◌≤◌, ◌↔�
 ghost use Rattle.host_io.specs.Faults.{Rose, raised};
 ghost use Rattle.host_io.specs.MemSource.{source_after_read, source_after_fault};
 
-use crate::failed::{Failed, FailingCalls, Memory, fault};
+use crate::failed::{Failed, FailingCalls, fault};
+use memory::Memory;
 use std::alloc::Global;
 use std::io;
 use std::io::Read;

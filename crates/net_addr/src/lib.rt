@@ -14,7 +14,6 @@
 mod address;
 mod address_traits;
 mod law;
-mod memory;
 mod net;
 mod net_set;
 mod old_form;

@@ -6,20 +6,11 @@ ghost use Rattle.slot_grid.specs.Slots.{renumbered};
 ghost use Rattle.slot_grid.specs.declared.sizes.TheConstants.{NEW_BUCKETS, TRIED_BUCKETS, SLOTS, BUCKETS, ALL_SLOTS};
 
 use crate::{ALL_SLOTS, BUCKETS, NEW_BUCKETS, SLOTS};
+use memory::Memory;
 use std::alloc::{AllocError, Global};
 use std::marker::Model;
 use std::sync::ledger::Ledger;
 use steps::Steps;
-
-/// Out of memory.
-#[derive(Clone, Copy, Debug, PartialEq, Eq)]
-pub struct Memory;
-
-impl From<AllocError> for Memory {
-    fn from(_: AllocError) -> Memory {
-        Memory
-    }
-}
 
 /// The slots of the new and of the tried table: which record, by its id, is in each. An id is
 /// any number. Only `make` takes memory.

@@ -5,8 +5,9 @@ ghost use Rattle.wire_num.specs.Fields.{CompactFault};
 ghost use Rattle.wire_num.specs.declared.fault.WireFault.{WireFault};
 ghost use Rattle.wire_num.specs.Readings.{GivesLength, compact_at};
 
-use crate::fault::{Memory, WireFault};
+use crate::fault::WireFault;
 use crate::numbers::{read_le16, read_le32, read_le64};
+use memory::Memory;
 
 /// Returns the number with `length`, the bytes that it takes together with the byte before it. A
 /// number below `least` fits in fewer bytes, and is rejected.

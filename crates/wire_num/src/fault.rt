@@ -1,5 +1,3 @@
-use std::alloc::AllocError;
-
 /// Why a field cannot be read.
 #[derive(Clone, Copy, Debug, PartialEq, Eq, Drop)]
 pub enum WireFault {
@@ -7,14 +5,4 @@ pub enum WireFault {
     Truncated = 1,
     /// A CompactSize has more bytes than its value needs.
     NonCanonical = 2,
-}
-
-/// Out of memory.
-#[derive(Clone, Copy, Debug, PartialEq, Eq)]
-pub struct Memory;
-
-impl From<AllocError> for Memory {
-    fn from(_error: AllocError) -> Memory {
-        Memory
-    }
 }
