@@ -3,9 +3,9 @@ ghost use Rattle.wire_num.specs.Readings.{Gives};
 ghost use Rattle.addr_codecs.specs.Entries.{IsEntry};
 ghost use Rattle.addr_codecs.specs.Inside.{CanWrite, entry_at, text_in};
 
+use crate::Memory;
 use crate::entry::{take_addr_entry, take_addrv2_entry};
 use crate::fault::MsgFault;
-use crate::Memory;
 use crate::writing::{put_addr_entry, put_addrv2_entry};
 use net_addr::Entry;
 

@@ -2,8 +2,8 @@ ghost use Rattle.std.specs.Prelude.{◌≡◌, List, Bool, [], ◌++◌, length,
 ghost use Rattle.bit_code.specs.Coder.{HasValue, spelling};
 ghost use Rattle.bit_code.specs.Files.{IsFileOf};
 
-use crate::coder::Coder;
 use crate::Memory;
+use crate::coder::Coder;
 use crate::packing::{cat_bits, closed, make_room, prepend_bits, shift_in};
 use crate::spelled::spell;
 use std::alloc::Global;

@@ -26,12 +26,6 @@ impl From<tables::Memory> for Memory {
     }
 }
 
-impl From<net_addr::Memory> for Memory {
-    fn from(_: net_addr::Memory) -> Memory {
-        Memory
-    }
-}
-
 impl From<std::collections::TryReserveError> for Memory {
     fn from(_: std::collections::TryReserveError) -> Memory {
         Memory
