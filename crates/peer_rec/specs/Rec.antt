@@ -75,3 +75,8 @@ chance r now =
     let tries = min r.attempts 8 in
     let parts = (2 ^ 30 * 66 ^ tries) / 100 ^ tries in
     if nat_lt now (r.last_try + 600) then parts / 100 else parts
+
+-- the factor that a search multiplies chances with grows by a fifth after each record that it
+-- refuses (`AddrManImpl::Select_`)
+abbrev pub next_factor : ℕ → ℕ
+next_factor factor = min (factor + factor / 5) (2 ^ 60)

@@ -5,7 +5,8 @@ ghost use Rattle.table_laws.specs.Searches.{all_lists, ending_at, ending_lists, 
 ghost use Rattle.net_addr.specs.declared.peer.Peer.{Peer};
 ghost use Rattle.peer_rec.specs.declared.rec.Rec.{Rec};
 ghost use Rattle.slot_grid.specs.declared.sizes.TheConstants.{SLOTS};
-ghost use Rattle.table_machine.specs.Picks.{bucket_count, first_factor, next_factor};
+ghost use Rattle.peer_rec.specs.Rec.{next_factor};
+ghost use Rattle.table_machine.specs.Picks.{bucket_count, first_factor};
 ghost use Rattle.table_machine.specs.Sound.{IsSound};
 ghost use Rattle.table_machine.specs.State.{State};
 

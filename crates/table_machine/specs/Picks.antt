@@ -5,7 +5,7 @@ use Rattle.std.specs.List.{range_with_len}
 use Rattle.net_addr.specs.NetSet.{has}
 use Rattle.net_addr.specs.Ranges.{net_class}
 use Rattle.net_addr.specs.declared.peer.Peer.{Peer}
-use Rattle.peer_rec.specs.Rec.{chance, is_terrible, is_tried, network}
+use Rattle.peer_rec.specs.Rec.{chance, is_terrible, is_tried, network, next_factor}
 use Rattle.peer_rec.specs.declared.answers.Picked.{Picked}
 use Rattle.peer_rec.specs.declared.answers.Picked.TheVariants.{One, Nothing, Exhausted}
 use Rattle.peer_rec.specs.declared.rec.Rec.{Rec}
@@ -80,10 +80,6 @@ candidates_of st new_only nets words =
 -- three in parts of 2^30
 abbrev pub is_accepted : Rec → ℕ → ℕ → ℕ → Bool
 is_accepted r now factor word = nat_lt ((word % 2 ^ 30) * 2 ^ 30) (chance r now * factor)
-
--- the factor grows by a fifth after each record that is refused
-abbrev pub next_factor : ℕ → ℕ
-next_factor factor = min (factor + factor / 5) (2 ^ 60)
 
 -- the factor that a search begins with
 abbrev pub first_factor : ℕ
