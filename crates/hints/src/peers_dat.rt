@@ -1,17 +1,16 @@
 use crate::files::{PACKED, is_packed};
 use net_addr::put_hex;
 use peer_rec::{MAX_BUCKETS, MAX_NEW, MAX_TRIED};
-use peers_file::{FileFault, MAX_FILE, RecordCause, Which};
+use peers_file::{Chain, FileFault, MAX_FILE, RecordCause, Which};
 use std::alloc::{AllocError, Global};
 
-/// The first bytes of the files of the chains (`pchMessageStart` in kernel/chainparams.cpp of
-/// Bitcoin Core).
-pub(crate) static CHAINS: [([u8; 4], &str); 5] = [
-    ([0xf9, 0xbe, 0xb4, 0xd9], "main"),
-    ([0x0b, 0x11, 0x09, 0x07], "test"),
-    ([0x1c, 0x16, 0x3f, 0x28], "testnet4"),
-    ([0x0a, 0x03, 0xcf, 0x40], "signet"),
-    ([0xfa, 0xbf, 0xb5, 0xda], "regtest"),
+/// The chains that have a name, and their names.
+pub(crate) static CHAINS: [(Chain, &str); 5] = [
+    (Chain::Main, "main"),
+    (Chain::Test, "test"),
+    (Chain::Testnet4, "testnet4"),
+    (Chain::Signet, "signet"),
+    (Chain::Regtest, "regtest"),
 ];
 
 /// Says what is wrong with peers.dat, which begins with these bytes: which chain and which format
@@ -35,8 +34,8 @@ pub fn duplicate_hint(alloc: Global, index: u32, head: &[u8]) -> Result<String, 
 
 /// Returns the chain whose files begin with these bytes.
 pub(crate) fn chain_of(head: &[u8]) -> Option<&'static str> {
-    for (magic, name) in &CHAINS {
-        if head.starts_with(magic) {
+    for (chain, name) in &CHAINS {
+        if head.starts_with(&chain.magic()) {
             return Some(*name);
         }
     }

@@ -16,7 +16,7 @@ pub enum Chain {
 impl Chain {
     /// Returns the four bytes that begin the messages and files of the chain (`pchMessageStart` in
     /// kernel/chainparams.cpp of Bitcoin Core).
-    pub(crate) fn magic(self) -> [u8; 4]
+    pub fn magic(self) -> [u8; 4]
         ensures { result ≡ magic_of self }
     {
         match self {
