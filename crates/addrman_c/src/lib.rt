@@ -12,7 +12,6 @@ ghost use Rattle.std.specs.Prelude.{◌≡◌};
 
 mod adding;
 mod adding_chosen;
-mod address_text;
 mod addresses;
 mod asmaps;
 mod attempts;
