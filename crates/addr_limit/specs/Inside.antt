@@ -1,5 +1,5 @@
 -- Definitions for private contracts: short messages, and entries that are passed on.
-use Rattle.std.specs.Prelude.{◌≢◌, ℕ, ◌≤◌, List, length, All, Option, Result, Ok, Err}
+use Rattle.std.specs.Prelude.{◌≢◌, ◌≤◌, List, length, All, Option, Result, Ok, Err}
 use Rattle.net_addr.specs.declared.peer.Entry.{Entry}
 use Rattle.net_addr.specs.declared.net.Net.TheVariants.{Internal}
 use Rattle.addr_codecs.specs.declared.fault.MsgFault.{MsgFault}

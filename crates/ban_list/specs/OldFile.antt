@@ -1,5 +1,5 @@
 -- What is found in an old file, and the tokens of what is written of it; for private clauses.
-use Rattle.std.specs.Prelude.{◌≡◌, ℕ, ◌+◌, List, [], ◌∷◌, ◌++◌, map, flat_map, codes, decimal, get_or, length, nat_lt, IsUtf8, Bool, false, Vec, Option, Some, None, option_and_then, ⊤, if◌then◌else◌}
+use Rattle.std.specs.Prelude.{◌≡◌, ℕ, ◌+◌, List, [], ◌∷◌, ◌++◌, flat_map, codes, decimal, get_or, length, nat_lt, IsUtf8, Bool, false, Vec, Option, Some, None, option_and_then, if◌then◌else◌}
 use Rattle.std.specs.Borrow.{Bor}
 use Rattle.std.specs.declared.alloc.Global.{Global}
 use Rattle.std.specs.Map.{lookup}
