@@ -63,7 +63,7 @@ fn begin_on(
     OK
 }
 
-/// Begins a save of the tables as they are now, in pieces of at most `most` bytes. What the handle
+/// Begins a save of the tables as they are now, in pieces of at most `max` bytes. What the handle
 /// of the save had is dropped.
 #[unsafe(no_mangle)]
 pub extern "C" fn addrman_save_begin(

@@ -47,7 +47,7 @@ pub(crate) fn count_of<H: BuildHasher>(tables: &Tables<'_, H>) -> u32
     counts.new_count + counts.tried_count
 }
 
-/// Returns how many peers a sample of `count` records may have: at most `most`, and at most
+/// Returns how many peers a sample of `count` records may have: at most `max`, and at most
 /// `percent` percent of the records. For both, 0 is no limit.
 pub(crate) fn sample_limit(count: u32, max: u32, percent: u32) -> u32
     requires percent { percent ≤ 100 }
