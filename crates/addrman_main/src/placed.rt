@@ -54,8 +54,8 @@ impl<'a> Placed<'a> {
         None
     }
 
-    /// Returns the error of a path: a file that is missing is not absent from the folder, unless it is
-    /// the asmap beside peers.dat.
+    /// Returns the error of a path: a file that is missing is not absent from the folder, unless it
+    /// is the asmap beside peers.dat.
     fn error(&self, name: Name, error: io::Error) -> io::Error {
         let may_lack = name == Name::Asmap && self.paths.is_beside;
         if error.kind() != ErrorKind::NotFound || may_lack {
