@@ -268,7 +268,8 @@ uninstall:
 	-rmdir --ignore-fail-on-non-empty $(wildcard $(DESTDIR)$(DOCDIR) \
 		$(DESTDIR)$(INCLUDEDIR)/libaddrman $(DESTDIR)$(LIBDIR)/cmake/addrman)
 
-# What the packed documents name by a link is packed too. README.md is one of its own.
+# What the packed documents name by a link is packed too, but for docs/inside and the README of the
+# sources: the packed one is another.
 PACKED := LICENSE CHANGELOG.md SECURITY.md docs examples bindings vectors \
 	bench/README.md plain/README.md plain/face/README.md plain/face/examples/node.rs tools/addrman.bash
 
@@ -276,7 +277,8 @@ dist: bin/addrman book
 	rm -rf bin/$(DIST) && mkdir -p bin/$(DIST)
 	cp --parents -r $(PACKED) bin/$(DIST)
 	rm -r bin/$(DIST)/docs/inside
-	sed -E -i 's/\[([^]]*)\]\(inside[^)]*\)/\1/g' bin/$(DIST)/docs/*.md
+	sed -E -i 's/\[([^]]*)\]\((inside|\.\.\/README\.md)[^)]*\)/\1/g' \
+		bin/$(DIST)/docs/*.md bin/$(DIST)/bench/README.md bin/$(DIST)/plain/README.md
 	cp -r bin/addrman bin/book bin/$(DIST)
 	test ! -d bin/lib || (mkdir bin/$(DIST)/lib && cp bin/lib/libaddrman.a bin/lib/libaddrman.so.1 bin/$(DIST)/lib)
 	sed -e 's|@VERSION@|$(VERSION)|' -e 's|@MACHINE@|$(BUILT_FOR)|' \
