@@ -27,7 +27,7 @@
 # make ci-plain-test  what make and make check do, and its program beside that which rt ci has just built
 # make packed     tries make install, make uninstall and make dist
 # make book       the book of the proofs as bin/book/index.html: a page for each command, call, crate and claim
-# make figures    prints lines, words and the like, and checks what docs/DEFINITIONS.md and MAP.md list
+# make figures    prints lines, words and the like, and checks what docs/inside/MAP.md lists
 # make install    copies program, manual page, completion, docs/FORMATS.md, and the library for C if
 #                 it is built, below $(DESTDIR)$(PREFIX); BINDIR, LIBDIR, INCLUDEDIR, MANDIR, DATADIR
 #                 and DOCDIR name the single folders
