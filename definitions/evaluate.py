@@ -583,9 +583,10 @@ def remembered(run: Callable) -> Callable:
     known: dict[tuple, tuple[Any, tuple]] = {}
 
     def memory(*args: Any) -> Any:
+        args = tuple(map(settle, args))
         key = tuple(map(values.frozen, args))
         if key not in known:
-            known[key] = settle(run(*args)), tuple(map(values.walk, args))
+            known[key] = settle(run(*args)), args
         return known[key][0]
     return memory
 

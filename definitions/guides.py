@@ -27,6 +27,8 @@ SKIPPED = {
     ('addrman_run', 'Opening', 'Opened', 'sound'): 'an invariant of the tables',
     ('addrman_run', 'Opener', 'OpenerRan', 'kept'): 'on all logs: the rules of open peers',
     ('addrman_run', 'Limit', 'Limited', 'apart'): 'on all numbers: connections do not matter to others',
+    ('addrman_run', 'Limit', 'Limited', 'each'): 'how the replies are cut into lines',
+    ('addrman_run', 'Limit', 'Limited', 'whole'): 'how the replies are cut into lines',
 }
 
 
@@ -111,13 +113,12 @@ def sampled_words(definitions: Definitions) -> dict[tuple[str, str, str], Any]:
         def ways(late: bool) -> Iterator[list[Any]]:
             ends = {0, 2 ** 128 - 1}
             for row in items(rows)[:200]:
-                bits = [force(b) for b in items(force(row)['prefix'])] if 'prefix' in force(row) else []
-                first = int(''.join('01'[b] for b in bits).ljust(128, '0'), 2) if bits else 0
-                ends |= {max(0, first - 1), first, first + 2 ** (128 - len(bits)) - 1}
+                first, length = force(force(row)['bits']), force(force(row)['len'])
+                ends |= {max(0, first - 1), first, first + 2 ** (128 - length) - 1}
             definitions.passed['addrman_run', 'Decompile', 'MeanTheSame', 'sampled'] += 1
             for n in sorted(ends):
                 digits = definitions.call('bit_code.Coder.digits', 128, n)
-                if definitions.call('prefix_table.Best.best', rows, n) != \
+                if definitions.call('prefix_table.Rows.best', rows, n) != \
                         definitions.call('asmap_vm.Code.meaning', tree, digits, 0):
                     return
             yield []

@@ -12,13 +12,17 @@ from dataclasses import dataclass, field
 from typing import Any
 
 from .evaluate import Definitions
-from .solve import holds, solve
-from .values import (NIL, NONE, TRUE, Con, Done, Prop, Stuck, Undefined, Var, apply, byte_list, force,
+from .solve import solve
+from .values import (NIL, NONE, Con, Done, Prop, Stuck, Undefined, Var, apply, byte_list, force,
                      listed, plain, settle, some, undo)
 
 NAMES = {'peers.dat': 'peers', 'peers.tmp': 'peers_temp', 'asmap.dat': 'asmap',
          'asmap.tmp': 'asmap_temp', 'asmap.old': 'asmap_old', 'prefixes.txt': 'prefixes',
          'banlist.json': 'bans', 'banlist.tmp': 'bans_temp'}
+
+
+# Arguments that `addrman_main` carries out or changes before the run that is proved.
+SHELL = {'-h', '--help', '-V', '-C', '--key-file', '--peers', '--asmap', '--bans', '--anchors'}
 
 
 @dataclass
@@ -124,6 +128,9 @@ class Judge:
     def decide(self, run: Run) -> Judgement:
         """The same, if it can be evaluated."""
         request = self.request(run.words)
+        if request is None and any(word in SHELL or '=' in word for word in run.words) \
+                or '--core' in run.words[2:]:
+            return Judgement('not judged', 'arguments that the shell around the run changes')
         if request is None or run.code == 2:
             right = request is None and run.code == 2 and not run.output \
                 and run.after == run.before and run.reason == 'bad usage'
@@ -158,7 +165,7 @@ class Judge:
             goals = [apply(self.definitions.value('addrman_run.Outcome.' + word), *args)
                      for word, args in (('Ends', (request, outside, now, status)),
                                         ('HasCause', (outside, now, status)))]
-            if holds(goals):
+            for _ in solve(goals):
                 return Judgement('right', '', name)
             undo(0)
         return Judgement('wrong', f'{plain(statuses[0])} is not allowed', name)

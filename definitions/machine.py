@@ -8,6 +8,7 @@ from typing import Any, Callable
 from .evaluate import Definitions
 from .guides import SKIPPED, guides, run_words, sampled_words
 from .index import Indexes
+from .json_words import JSON
 from .primitives import PRIMITIVES
 from .readings import replaced
 from .solve import solve
@@ -17,13 +18,14 @@ from .values import (NONE, Con, Done, Var, apply, byte_list, force, listed, octe
 # Definitions that are asked again and again for the same values.
 MEMORY = frozenset({
     'placing.new_bucket', 'placing.new_slot', 'placing.tried_bucket', 'placing.tried_slot',
-    'net_addr.is_routable', 'net_addr.net_class', 'net_addr.in_range', 'session_saves.file_of'})
+    'net_addr.is_routable', 'net_addr.net_class', 'net_addr.in_range', 'session_saves.file_of',
+    'asmap_vm.code', 'asmap_vm.tree_of'})
 
 
 def load(root: str = 'crates', changes: list[tuple[str, str, str]] = [],
          exact: bool = False) -> Definitions:
     """The definitions of a tree of crates; `exact` without an index of slots."""
-    definitions = Definitions(root, PRIMITIVES, replaced, MEMORY, changes)
+    definitions = Definitions(root, {**PRIMITIVES, **JSON}, replaced, MEMORY, changes)
     indexes = Indexes(definitions, exact)
     definitions.replaced.update(indexes.words())
     definitions.indexes = indexes

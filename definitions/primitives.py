@@ -12,7 +12,7 @@ from . import values
 from .solve import INVERSES, equal, spell, unify
 from .evaluate import SOURCES, environment
 from .syntax import Apply, Name
-from .values import (FALSE, NIL, NONE, TRAIL, TRUE, Call, Con, Cons, Function, Prop, Stuck, Thunk, Var,
+from .values import (FALSE, NIL, NONE, TRAIL, TRUE, Call, Con, Cons, Function, Nil, Prop, Stuck, Thunk, Var,
                      apply, bind, elements, force, items, listed, numbers, octets, some, undo, walk)
 
 N = force
@@ -428,6 +428,45 @@ def rising(xs: Any) -> Prop:
     return Prop('native', ways)
 
 
+def permutation(xs: Any, ys: Any) -> Prop:
+    """That two lists have the same elements. If one is not known, it is proposed in rising order of
+    its fields, as the rows of a table are."""
+    def ways(late: bool) -> Iterator[list[Any]]:
+        a, b = known_items(xs), known_items(ys)
+        if a is None and b is None:
+            raise Stuck()
+        if a is not None and b is not None:
+            if sorted(map(key_of, a)) == sorted(map(key_of, b)):
+                yield []
+            return
+        known, other = (a, ys) if a is not None else (b, xs)
+        mark = len(TRAIL)
+        if unify(other, listed(sorted(known, key=key_of))):
+            yield []
+        undo(mark)
+    return Prop('native', ways)
+
+
+def known_items(xs: Any) -> list[Any] | None:
+    """The elements of a list, None if it is not known."""
+    try:
+        return items(xs)
+    except Stuck:
+        return None
+
+
+def key_of(x: Any) -> Any:
+    """What elements are put in order by: fields as they are declared."""
+    x = force(x)
+    if isinstance(x, dict):
+        return tuple(key_of(v) for v in x.values())
+    if type(x) is Con:
+        return (x.name, *map(key_of, x.args))
+    if isinstance(x, (Cons, Nil)):
+        return tuple(map(key_of, items(x)))
+    return x
+
+
 PRIMITIVES: dict[str, Any] = {
     # numbers and tests
     '◌+◌': both(lambda a, b: a + b), '◌-◌': both(lambda a, b: max(0, a - b)),
@@ -483,13 +522,14 @@ PRIMITIVES: dict[str, Any] = {
     'decode_of': (1, hex_decoded), 'decode_sized': (2, hex_decoded_sized),
     'segments_of': (1, segments_of), 'octets_of': (1, octets_of),
     'hex_groups_text': (1, hex_groups_text), 'string_bytes': (1, force),
+    'to_ascii_lowercase': (1, lambda c: N(c) + 32 if 65 <= N(c) <= 90 else N(c)),
     # hashes and random words
     'sha256': (1, lambda xs: listed(hashlib.sha256(octets(xs)).digest())),
     'splitmix_seed': (2, splitmix_seed), 'of_seed': (1, of_seed), 'plus_plus': (1, plus_plus),
     # propositions
     'All': (2, each_holds), 'AllPairs': (2, each_pair_holds), 'Contains': (2, contains),
     'IsTrue': (1, lambda b: Prop('equal', b, True)), 'IsColonHex': (2, is_colon_hex),
-    'IsStrictlyIncreasing': (1, rising),
+    'IsStrictlyIncreasing': (1, rising), 'IsPermutation': (2, permutation),
     'IfSome': (2, lambda o, p: apply(p, N(o).args[0]) if is_some(o) else TRUE),
     'IsSomeAnd': (2, lambda o, p: apply(p, N(o).args[0]) if is_some(o) else FALSE),
     'IsSome': (1, lambda o: TRUE if is_some(o) else FALSE),

@@ -356,7 +356,7 @@ def steps(goal: Any, late: bool) -> Iterator[list[Any]]:
         values = variants(parts[0])
         if values is not None:
             yield [parts[1](v) for v in values]
-        elif for_each(parts[1](Var(parts[0])), Var.made):
+        elif for_each(goal, Var.made + 1):
             yield []
     elif kind == 'test':
         if force(parts[0]):
@@ -384,29 +384,76 @@ def pairs_of(a: Any, b: Any) -> list[Any] | None:
     return None
 
 
-def for_each(goal: Any, first: int) -> bool:
+def for_each(goal: Any, first: int, of: Any = None) -> bool:
     """Whether a goal holds for all values of the unknowns from a serial on: nothing meets what it
-    denies, or each way to its premise leads to its conclusion."""
+    denies, or each way to its premises leads to its conclusion."""
     goal = force(goal)
     kind, parts = goal.kind, goal.parts
     if kind == 'all':
-        return for_each(parts[1](Var(parts[0])), first)
+        variable = Var(parts[0])
+        return for_each(parts[1](variable), first, (parts[0], parts[1]))
     if kind == 'not':
         return not holds([parts[0]], first)
     if kind != 'implies':
-        raise Undefined('a statement on all values of a type')
+        return for_numbers(of, first)
+    premises = []
+    while type(goal) is Prop and goal.kind == 'implies':
+        premises.append(goal.parts[0])
+        goal = force(goal.parts[1])
+        while goal.kind == 'all':
+            goal = force(goal.parts[1](Var(goal.parts[0])))
     mark = len(TRAIL)
-    for _ in solve([parts[0]]):
+    for _ in solve(premises):
         asked = [it for it, _ in TRAIL[mark:] if type(it) is Var and it.serial < first]
         if asked:
             raise Stuck(asked[0])
-        conclusion = force(parts[1])
-        if not (for_each(conclusion, first) if conclusion.kind in ('implies', 'all')
-                else holds([conclusion], first)):
+        if not holds([goal], first):
             undo(mark)
             return False
     undo(mark)
     return True
+
+
+# A statement on all numbers without a premise is tried for those below the first of these, and for
+# the second.
+NUMBERS = 600, 10 ** 6
+
+
+def for_numbers(of: Any, first: int) -> bool:
+    """Whether a goal holds for many numbers."""
+    if of is None or not (isinstance(of[0][1], Name) and of[0][1].name == 'ℕ'):
+        raise Undefined('a statement on all values of a type')
+    scope = of[0][0]
+    scope.definitions.passed[scope.module.crate, scope.module.name, 'ℕ', 'many numbers tried'] += 1
+    return all(holds([of[1](n)], first) for n in [*range(NUMBERS[0]), NUMBERS[1]])
+
+
+def between(goals: list[Any]) -> tuple[Any, list[Any]] | None:
+    """An unknown number that goals bound from both sides, and the numbers between."""
+    lows: dict[int, int] = {}
+    highs: dict[int, tuple[Var, int]] = {}
+    for goal in goals:
+        goal = peek(goal)
+        while type(goal) is Prop and goal.kind == 'witnessed':
+            goal = peek(goal.parts[0])
+        if type(goal) is not Prop or goal.kind != 'test' or goal.parts[0].source < 0 \
+                or goal.parts[0].work is None:
+            continue
+        scope, tree = SOURCES[goal.parts[0].source]
+        if not isinstance(tree, Operation):
+            continue
+        names = environment(goal.parts[0])
+        left, right = (peek(scope.thunk_of(each, names)) for each in (tree.left, tree.right))
+        more = tree.operator == '<'
+        if type(left) is int and type(right) is Var:
+            lows[id(right)] = max(lows.get(id(right), 0), left + more)
+        if type(left) is Var and type(right) is int:
+            high = min(right - more, highs.get(id(left), (left, right))[1])
+            highs[id(left)] = left, high
+    for key, (variable, high) in highs.items():
+        if high - lows.get(key, 0) <= 600:
+            return variable, [lambda n=n: n for n in range(lows.get(key, 0), high + 1)]  # type: ignore
+    return None
 
 
 def type_steps(scope: Scope, of: Parametrised, args: tuple, witness: Any) -> Iterator[list[Any]]:
@@ -497,6 +544,7 @@ def solve(goals: list[Any]) -> Iterator[None]:
         else:
             continue
         break
+    asked = asked or between(goals)
     if asked is None:
         if TOLD is not None:
             TOLD(goals)
@@ -512,7 +560,7 @@ def is_keyword(goal: Any, stuck: Stuck) -> bool:
     """Whether a goal is that something is the word of an unknown constructor. That is tried before
     any choice, since it is wrong for all but one of them."""
     v = peek(goal)
-    return type(v) is Prop and v.kind == 'equal' and len(stuck.patterns or []) > 2 \
+    return type(v) is Prop and v.kind == 'equal' and len(stuck.patterns or []) > 5 \
         and all(type(each) is syntax.Form for each in stuck.patterns or [])
 
 
@@ -538,6 +586,7 @@ def forms_of(stuck: Stuck) -> list[Callable[[], Any]] | None:
     if values is not None:
         return [lambda v=v: v for v in values]  # type: ignore
     found: dict[Any, Callable[[], Any]] = {}
+    others = False
     for pattern in stuck.patterns or []:
         match pattern:
             case syntax.Literal(value):
@@ -550,7 +599,9 @@ def forms_of(stuck: Stuck) -> list[Callable[[], Any]] | None:
                 found.setdefault(name, lambda name=name, n=len(arguments):
                                  Con(name, tuple(Var() for _ in range(n))))
             case _:
-                return None
+                others = True
+    if others and not ('empty' in found and 'link' in found):
+        return None
     return list(found.values()) or None
 
 

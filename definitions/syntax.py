@@ -498,8 +498,9 @@ class Module:
         self.unread: dict[str, str] = {}
         for lines in declarations(text):
             self.declare(lines)
-        known = {part for of in self.types.values() for part, _ in of.parts}
-        known |= set(self.uses) | {'suc'}
+        known = {part for of in self.types.values() for part, _ in of.parts if of.kind == 'data'}
+        known |= {name for name, use in self.uses.items()
+                  if name[0].isupper() or use.crate in ('json', 'serde_json')} | {'suc'}
         for equations in self.equations.values():
             equations[:] = [([settled(p, known) for p in patterns], tree)
                             for patterns, tree in equations]
@@ -602,8 +603,11 @@ class Module:
 
 
 def settled(pattern: Pattern, known: set[str]) -> Pattern:
-    """The pattern, in which a capital name that is no constructor is a parameter."""
+    """The pattern, in which a capital name that is no constructor is a parameter, and a small one
+    that is one is that."""
     match pattern:
+        case Any(name) if name in known:
+            return Form(name, [])
         case Form(name, [], True) if name not in known:
             return Any(name)
         case Form(name, arguments):

@@ -347,7 +347,7 @@ def frozen(v: Any) -> Any:
     """A key for a value: by contents, or by the object for what is evaluated to its ends."""
     v = force(v)
     kind = type(v)
-    if kind is Done:
+    if kind is Done or kind is Con and v.done and v.args:
         return id(v)
     if kind is Cons or v is NIL:
         return tuple(frozen(x) for x in elements(v))

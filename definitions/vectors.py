@@ -147,7 +147,7 @@ class Vectors:
         goal = apply(self.definitions.value('prefix_table.Text.IsFault'), text, fault)
         if not first(goal):
             return False
-        word = octets(self.call('prefix_table.FaultTexts.fault_text', fault)).decode()
+        word = octets(self.call('prefix_table.FaultTexts.NAME', fault)).decode()
         return word == v['fault']
 
     def peers(self, v: dict[str, Any]) -> bool:
@@ -158,7 +158,7 @@ class Vectors:
             goal = apply(self.definitions.value('peers_file.Layout.HasFileFault'), chain,
                          byte_list(data), got)
             return first(goal) and octets(
-                self.call('peers_file.FaultTexts.fault_text', got)).decode() == v['fault']
+                self.call('peers_file.FaultTexts.NAME2', got)).decode() == v['fault']
         goal = apply(self.definitions.value('peers_file.Layout.IsFile'), chain, byte_list(data), got)
         if not first(goal):
             return False
