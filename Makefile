@@ -46,6 +46,8 @@ DOCDIR ?= $(DATADIR)/doc/addrman
 COMPLETIONS = $(DATADIR)/bash-completion/completions
 VERSION := 0.1.0
 ZERO_KEY := 0000000000000000000000000000000000000000000000000000000000000000
+# A node starts with a file that is saved under this one.
+ONES_KEY := 1111111111111111111111111111111111111111111111111111111111111111
 # What the program is built for.
 BUILT_FOR := $(shell uname -m)
 DIST := addrman-$(VERSION)-$(BUILT_FOR)-linux
@@ -122,7 +124,7 @@ demo: bin/addrman
 	cd examples && ../bin/addrman replay --key=$(ZERO_KEY) < every-line.log
 	cd examples && ../bin/addrman opener --key=$(ZERO_KEY) < opener.log
 	mkdir -p bin/saved && rm -f bin/saved/*
-	cd bin/saved && ../addrman replay --key $(ZERO_KEY) < ../../examples/saves.log
+	cd bin/saved && ../addrman replay --key $(ONES_KEY) < ../../examples/saves.log
 	cd bin/saved && ../addrman show
 
 examples: bin/addrman

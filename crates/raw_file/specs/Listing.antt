@@ -1,5 +1,5 @@
 -- What a listing says, as a file of peers has it.
-use Rattle.std.specs.Prelude.{ℕ, List, [], ◌∷◌, ◌++◌, Bool, not, ◌&&◌, ◌||◌, ◌==◌, false, map, fold, position, find, unwrap_or, Option, Some, None, if◌then◌else◌}
+use Rattle.std.specs.Prelude.{ℕ, max, List, [], ◌∷◌, ◌++◌, Bool, not, ◌&&◌, ◌||◌, ◌==◌, false, map, fold, position, find, unwrap_or, Option, Some, None, if◌then◌else◌}
 use Rattle.std.specs.List.{list_any}
 use Rattle.net_addr.specs.Same.{same_address, same_peer}
 use Rattle.net_addr.specs.declared.peer.Peer.{Peer}
@@ -19,6 +19,16 @@ use Rattle.slot_grid.specs.declared.sizes.TheConstants.{NEW_BUCKETS}
 -- The records of some rows.
 abbrev pub recs_of : List RawRow → List FileRec
 recs_of rows = map (λ row. row.rec) rows
+
+-- A tried record with a success, which a listing does not have: at the time of the record, or at 1,
+-- since a node does not start over a file with a tried record whose last success is at 0
+-- (`AddrManImpl::CheckAddrman`).
+abbrev pub reached : FileRec → FileRec
+reached r = record r { last_success = max r.time 1 }
+
+-- The records of rows of the tried table
+abbrev pub tried_of : List RawRow → List FileRec
+tried_of rows = map (λ row. reached row.rec) rows
 
 -- The peers of some records.
 abbrev pub peers_of : List FileRec → List Peer
@@ -44,11 +54,11 @@ pair_of recs row = (row.bucket, index_of recs row.rec.peer)
 abbrev pub new_recs : Raw → List FileRec
 new_recs raw = firsts (recs_of raw.new)
 
--- The file's records are those of the rows, each peer of the new table once. Each bucket lists the
--- records of its rows, in their order.
+-- The file's records are those of the rows: each peer of the new table once, and those of the tried
+-- table with a success. Each bucket lists the records of its rows, in their order.
 abbrev pub snapshot_of : List ℕ → List ℕ → Raw → Snapshot
 snapshot_of key sum raw =
-    snapshot key (new_recs raw) (recs_of raw.tried) NEW_BUCKETS
+    snapshot key (new_recs raw) (tried_of raw.tried) NEW_BUCKETS
     (map (pair_of (new_recs raw)) raw.new) sum
 
 -- A PEER THAT IS THERE AGAIN
