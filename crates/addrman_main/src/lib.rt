@@ -46,7 +46,7 @@ fn arguments_of(rt: &(impl Env + AllocGlobal)) -> io::Result<Vec<String>> {
 /// Says why the arguments cannot be read.
 fn without_words(error: io::Error) -> &'static str {
     if error.kind() == ErrorKind::InvalidData {
-        "addrman: the arguments cannot be read: an argument or a file name is not UTF-8\n"
+        "addrman: the arguments cannot be read\naddrman: an argument or a file name is not UTF-8\n"
     } else {
         "addrman: the arguments cannot be read\n"
     }
