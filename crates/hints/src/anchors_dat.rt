@@ -1,4 +1,5 @@
 //! What is wrong with an `anchors.dat`.
+
 use crate::files::packed_text;
 use crate::peers_dat::chain_of;
 use anchors::{AnchorCause, AnchorsFault, MAX_ANCHORS, MAX_FILE};

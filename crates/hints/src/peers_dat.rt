@@ -1,4 +1,5 @@
 //! What is wrong with `peers.dat`: the chain, the format, a record, or a duplicate.
+
 use crate::files::packed_text;
 use net_addr::put_hex;
 use peer_rec::{MAX_BUCKETS, MAX_NEW, MAX_TRIED};

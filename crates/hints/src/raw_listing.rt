@@ -1,4 +1,5 @@
 //! `listing_hint`: why a listing is refused, and what it has to be.
+
 use crate::files::{json_hint, packed_text};
 use raw_file::ListingFault;
 use raw_read::{Field, MAX_TEXT, RawFault};

@@ -16,16 +16,16 @@ use Rattle.table_machine.specs.Picks.{bucket_count, occupant_at}
 use Rattle.table_machine.specs.State.{State}
 use Rattle.table_laws.specs.Rounds.{holds}
 
--- the first code that is not 0
+-- The first code that is not 0.
 abbrev pub first_code : List ℕ → ℕ
 first_code [] = 0
 first_code (code ∷ codes) = if code == 0 then first_code codes else code
 
--- the code of a test
+-- The code of a test.
 abbrev pub code_if : Bool → ℕ → ℕ
 code_if fails code = if fails then code else 0
 
--- how many slots of a table have the record of the number
+-- How many slots of a table have the record of the number.
 unfoldable pub held : State → Bool → ℕ → ℕ
 held st in_new number =
     sum_by
@@ -38,12 +38,12 @@ held st in_new number =
 abbrev pub is_found : List Rec → Rec → Bool
 is_found read r = count_by (λ q. same_peer q.peer r.peer) read == 1
 
--- the record's number is in the order of the records (`vRandom`)
+-- The record's number is in the order of the records (`vRandom`).
 abbrev pub is_in_order : State → Rec → Bool
 is_in_order st r = list_any (λ number. number == r.number) st.order
 
--- a tried record with no success, or in a bucket of the new table; a new one in more than eight, or
--- in none
+-- A tried record with no success, or in a bucket of the new table; a new one in more than eight, or
+-- in none.
 abbrev pub place_code : Rec → ℕ
 place_code r =
     if is_tried r
@@ -52,20 +52,20 @@ place_code r =
     code_if (nat_lt MAX_LISTS (length (buckets_of r))) 3
     ∷ code_if (length (buckets_of r) == 0) 4 ∷ [])
 
--- the tests of one record
+-- The tests of one record.
 abbrev pub rec_code : List Rec → State → Rec → ℕ
 rec_code read st r =
     first_code (
     place_code r ∷ code_if (not (is_found read r)) 5 ∷ code_if (not (is_in_order st r)) 14 ∷ [])
 
--- some record of the tried table, or of the new one, has a property
+-- Some record of the tried table, or of the new one, has a property.
 abbrev pub some_tried : (Rec → Bool) → State → Bool
 some_tried test st = list_any (λ r. is_tried r && test r) st.records
 
 abbrev pub some_new : (Rec → Bool) → State → Bool
 some_new test st = list_any (λ r. not (is_tried r) && test r) st.records
 
--- each byte of a key is zero
+-- Each byte of a key is zero.
 abbrev pub is_zero : List ℕ → Bool
 is_zero key = list_all (λ b. b == 0) key
 

@@ -17,7 +17,7 @@ use Rattle.node_check.specs.declared.refusal.Refusal.{Refusal}
 use Rattle.node_check.specs.declared.refusal.Refusal.TheVariants.{NoSuccess, ZeroKey}
 use Rattle.node_check.specs.Loading.{load_code, loaded}
 
--- what is read of bytes that have no fault: few records, with values that fit their fields
+-- What is read of bytes that have no fault: few records, with values that fit their fields.
 pub record IsReadable (snap : Snapshot) : Type 0 where
   pub key_length : length snap.key ≡ 32
   pub key_bytes : All (λ b. b < 256) snap.key
@@ -28,25 +28,25 @@ pub record IsReadable (snap : Snapshot) : Type 0 where
   pub buckets : All (λ pair. pair.0 < snap.bucket_count) snap.listed
   pub indexes : All (λ pair. pair.1 < length snap.new_recs) snap.listed
 
--- a tried record was reached once
+-- A tried record was reached once.
 abbrev pub IsReached : Rec → Type 0
 IsReached r = is_tried r ≡ true → r.last_success ≢ 0
 
--- a tried record that was never reached
+-- A tried record that was never reached.
 abbrev pub lacks_success : Rec → Bool
 lacks_success r = is_tried r && r.last_success == 0
 
--- what a sound state fails: nothing but these two tests
+-- What a sound state fails: nothing but these two tests.
 abbrev pub sound_code : State → ℕ
 sound_code st =
     if list_any lacks_success st.records then 1 else (if is_zero st.places.key then 16 else 0)
 
--- a file that a node loads, whatever its asmap is
+-- A file that a node loads, whatever its asmap is.
 abbrev pub Loads : Snapshot → Type 0
 Loads snap =
     (map : Option Asmap) (rule : SumRule) → IfSome map IsAsmap → load_code snap map rule ≡ 0
 
--- the two conditions, of a file
+-- The two conditions, of a file.
 pub record IsLoadable (snap : Snapshot) : Type 0 where
   pub key : is_zero snap.key ≡ false
   pub successes : All (λ f. f.last_success ≢ 0) snap.tried_recs
@@ -61,7 +61,7 @@ pub record LoadsAsSaved (st : State) : Type 0 where
       → IsReopened (occupant_at st in_new bucket slot)
       (occupant_at (loaded (snapshot_of st) st.places.map st.places.rule) in_new bucket slot)
 
--- why a node may refuse a file: the first of the two conditions that it lacks
+-- Why a node may refuse a file: the first of the two conditions that it lacks.
 abbrev pub refusal_of : Snapshot → Option Refusal
 refusal_of snap =
     if list_any (λ f. f.last_success == 0) snap.tried_recs then Some NoSuccess

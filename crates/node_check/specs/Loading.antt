@@ -10,15 +10,15 @@ use Rattle.table_machine.specs.Restoring.{restored, with_records}
 use Rattle.table_machine.specs.State.{State}
 use Rattle.node_check.specs.Check.{check_code}
 
--- by what a node computes the places of records: the key of the file, and its own asmap
+-- By what a node computes the places of records: the key of the file, and its own asmap.
 abbrev pub node_places : Snapshot → Option Asmap → SumRule → Places
 node_places snap map rule = record { key = snap.key; map = map; rule = rule }
 
--- the tables of a node with this asmap
+-- The tables of a node with this asmap.
 abbrev pub loaded : Snapshot → Option Asmap → SumRule → State
 loaded snap map rule = restored snap (node_places snap map rule)
 
--- the code with which it ends the loading
+-- The code with which it ends the loading.
 abbrev pub load_code : Snapshot → Option Asmap → SumRule → ℕ
 load_code snap map rule =
     check_code (with_records snap (node_places snap map rule)).records (loaded snap map rule)

@@ -1,3 +1,5 @@
+//! `Refusal` and `why_refused`: why a node does not start with a file of peers.
+
 ghost use Rattle.std.specs.Prelude.{◌≡◌, None, ◌==◌};
 ghost use Rattle.std.specs.List.{list_any};
 ghost use Rattle.node_check.specs.Check.{is_zero};
