@@ -1,3 +1,5 @@
+//! Laws: which files of peers a node of Bitcoin Core loads, and that it loads what a save writes.
+
 ghost use Rattle.std.specs.Prelude.{◌≡◌, Option, None, IfSome};
 ghost use Rattle.asmap_vm.specs.Asmap.{Asmap, IsAsmap};
 ghost use Rattle.node_check.specs.Laws.{IsLoadable, IsReadable, Loads, LoadsAsSaved, sound_code};

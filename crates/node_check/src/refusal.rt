@@ -1,3 +1,5 @@
+//! `Refusal`: why a node of Bitcoin Core does not start over a file of peers that has no fault.
+
 ghost use Rattle.std.specs.Prelude.{◌≡◌, None, ◌==◌};
 ghost use Rattle.std.specs.List.{list_any};
 ghost use Rattle.node_check.specs.Check.{is_zero};
