@@ -119,9 +119,10 @@ def drawn_logs(root: str, program: list[str], seed: int, count: int,
     return found
 
 
-KINDS = {'net_addr': ['addresses', 'peers'], 'net_group': ['addresses', 'places'], 'placing': ['places'],
-         'peer_rec': ['records'], 'addr_codecs': ['messages', 'peers'], 'wire_num': ['messages', 'peers'],
-         'peers_file': ['peers'], 'asmap_vm': ['asmaps']}
+# The vectors that a crate's definitions may show in, and of these every so many.
+KINDS = {'net_addr': ('addresses', 1), 'net_group': ('addresses', 1), 'placing': ('places', 1),
+         'peer_rec': ('records', 1), 'addr_codecs': ('messages', 1), 'wire_num': ('messages', 1),
+         'peers_file': ('peers', 8), 'asmap_vm': ('asmaps', 1)}
 
 
 def found_by(setting: Setting, plant: Plant | None) -> str | None:
@@ -129,11 +130,10 @@ def found_by(setting: Setting, plant: Plant | None) -> str | None:
     changes = [(plant.where, plant.old, plant.new)] if plant else []
     crate = plant.where.split('/')[0] if plant else ''
     definitions = load(setting.root, changes)
-    if plant is None or crate in KINDS:
-        for kind in KINDS.get(crate, vectors.KINDS[:4]):
-            _, wrong = vectors.check(definitions, setting.vectors, [kind], 0, 1)
-            if wrong:
-                return wrong[0]
+    for kind, of in [KINDS[crate]] if crate in KINDS else []:
+        _, wrong = vectors.check(definitions, setting.vectors, [kind], 0, of)
+        if wrong:
+            return 'the vector ' + wrong[0]
     checked = examples.check(definitions, {crate, 'table_machine'} if plant else {'table_machine'})
     if checked.wrong:
         return 'the example ' + checked.wrong[0]

@@ -3,20 +3,18 @@ from __future__ import annotations
 
 import collections
 import concurrent.futures
-import ctypes
 import glob
 import importlib.machinery
 import importlib.util
 import os
 import sys
-import threading
 import time
 from dataclasses import dataclass, field
 from typing import Any, Iterator
 
 from . import values
 from .judge import Judge, Judgement, run_program
-from .machine import load, with_room
+from .machine import TooLong, load, with_room, within
 
 HERE = os.path.dirname(os.path.dirname(os.path.abspath(__file__)))
 
@@ -79,10 +77,6 @@ def row_inputs(names: list[str]) -> Iterator[Input]:
             yield Input(f'{name}:{line}', case.arguments, case.log, case.files)
 
 
-class TooLong(Exception):
-    """A judgement took too long."""
-
-
 def judged(judge: Judge, program: list[str], given: Input, seconds: float = SECONDS) -> Judgement:
     """The judgement of one run, unless it takes too long."""
     if len(given.log) > MOST_LOG or any(len(data) > MOST_FILE for data in given.files.values()):
@@ -90,17 +84,11 @@ def judged(judge: Judge, program: list[str], given: Input, seconds: float = SECO
     run = run_program(program, given.words, given.log, given.files)
     if len(run.output) > MOST_FILE:
         return Judgement('not judged', 'long output')
-    thread = ctypes.c_ulong(threading.get_ident())
-    timer = threading.Timer(seconds, lambda: ctypes.pythonapi.PyThreadState_SetAsyncExc(
-        thread, ctypes.py_object(TooLong)))
-    timer.start()
     try:
-        return judge.judge(run)
+        return within(seconds, lambda: judge.judge(run))
     except TooLong:
         values.undo(0)
         return Judgement('not judged', 'takes too long')
-    finally:
-        timer.cancel()
 
 
 LOADED: list[Judge] = []
