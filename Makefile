@@ -22,16 +22,19 @@
 #                 BACKEND=rattle by Rattle's own compiler, with backtraces for a debugger alone
 # make lib-test   tries it from C, C++ and Python, beside the built program
 # make ci-lib-test  the same with what rt ci has just proved and built in this clone
-# make ci-program-test  rows, endings, mistakes and examples with what rt ci has just proved and built in this clone
+# make ci-program-test  rows, endings, mistakes and examples with what rt ci has just proved and built in this clone,
+#                 and whether the book is whole
 # make ci-plain-test  what make and make check do, and its program beside that which rt ci has just built
 # make packed     tries make install, make uninstall and make dist
-# make figures    prints lines, words and the like, and checks what docs/DEFINITIONS.md and MAP.md list
+# make book       the book of the proofs as bin/book/index.html: a page for each command, call, crate and claim
+# make figures    prints lines, words and the like, and checks what docs/inside/MAP.md lists
 # make install    copies program, manual page, completion, docs/FORMATS.md, and the library for C if
 #                 it is built, below $(DESTDIR)$(PREFIX); BINDIR, LIBDIR, INCLUDEDIR, MANDIR, DATADIR
 #                 and DOCDIR name the single folders
 # make uninstall  removes what make install copies, with the same variables
-# make dist       packs program, documents, bindings, examples and vectors as
-#                 bin/addrman-VERSION-x86_64-linux.tar.gz
+# make dist       packs program, documents, book, bindings, examples and vectors, and the library for C if it
+#                 is built, as bin/addrman-VERSION-MACHINE-linux.tar.gz
+# make release    builds all that a release has in two folders, compares, and keeps bin/release
 
 PREFIX ?= /usr/local
 BINDIR ?= $(PREFIX)/bin
@@ -43,23 +46,29 @@ DOCDIR ?= $(DATADIR)/doc/addrman
 COMPLETIONS = $(DATADIR)/bash-completion/completions
 VERSION := 0.1.0
 ZERO_KEY := 0000000000000000000000000000000000000000000000000000000000000000
-DIST := addrman-$(VERSION)-x86_64-linux
+# A node starts with a file that is saved under this one.
+ONES_KEY := 1111111111111111111111111111111111111111111111111111111111111111
+# What the program is built for.
+BUILT_FOR := $(shell uname -m)
+DIST := addrman-$(VERSION)-$(BUILT_FOR)-linux
 
 # Where the toolchain has its part of the C library: the allocator that the library calls.
 KIT = $(shell dirname "$$(dirname "$$(readlink -f "$$(command -v rt)")")")
 
-.PHONY: all plain check proved package plain-lib plain-archive sanitized-lib bench try ci-try demo examples \
+.PHONY: all book plain check proved package plain-lib plain-archive sanitized-lib bench try ci-try demo examples \
 	flood page page-test endings mistakes packed test figures lib lib-test ci-lib-test ci-program-test \
-	archive install install-lib uninstall dist
+	archive install install-lib uninstall dist release
 
 # Where cargo builds, below bin/.
 CARGO = cd bin/plain && cargo build --quiet --release --target-dir ../target
 
 all: plain
+	@tools/needs crates
 	$(CARGO) -p addrman
 	cp bin/target/release/addrman bin/addrman
 
 plain:
+	@tools/needs programs
 	tools/plain bin/plain > /dev/null
 
 check:
@@ -115,7 +124,7 @@ demo: bin/addrman
 	cd examples && ../bin/addrman replay --key=$(ZERO_KEY) < every-line.log
 	cd examples && ../bin/addrman opener --key=$(ZERO_KEY) < opener.log
 	mkdir -p bin/saved && rm -f bin/saved/*
-	cd bin/saved && ../addrman replay --key $(ZERO_KEY) < ../../examples/saves.log
+	cd bin/saved && ../addrman replay --key $(ONES_KEY) < ../../examples/saves.log
 	cd bin/saved && ../addrman show
 
 examples: bin/addrman
@@ -149,6 +158,8 @@ ci-program-test:
 	tools/endings crates/addrman/out/addrman
 	tools/mistakes crates/addrman/out/addrman
 	tools/examples crates/addrman/out/addrman
+	tools/book --lacks
+	tools/test_book
 
 # The same sources, built by cargo from nothing, beside the program that rt ci has just built.
 ci-plain-test:
@@ -166,6 +177,10 @@ test:
 figures:
 	tools/figures
 
+book:
+	rm -rf bin/book
+	tools/book bin/book
+
 lib:
 	cd crates/addrman_c && rt $(if $(BACKEND),lib --backend $(BACKEND),check)
 	$(if $(BACKEND),,tools/lib_archive)
@@ -174,26 +189,27 @@ lib:
 # The calls that close take NULL too, and what is freed is wiped, by bindings/edges.c.
 CLOSES := addrman_close addrman_save_close addrman_bans_close addrman_limiter_close addrman_answers_close
 
-# One object, with the allocator in it and only addrman_* to be seen.
+# One object, with the allocator in it and only addrman_* to be seen. BUILT is the folder for the library.
+BUILT ?= bin/lib
 OBJECTS ?= --whole-archive crates/addrman_c/out/libaddrman_c.a $(KIT)/c/liblibc_c.a
 
 archive:
-	mkdir -p bin/lib
-	ld -r -o bin/lib/proved.o $(OBJECTS)
+	mkdir -p $(BUILT)
+	ld -r -o $(BUILT)/proved.o $(OBJECTS)
 	objcopy --strip-unneeded --remove-section=.llvmbc --remove-section=.llvmcmd \
 		--keep-section=.debug_frame --keep-section=.rela.debug_frame \
 		--redefine-sym free=wiping_free --redefine-sym realloc=wiping_realloc \
-		$(foreach it,$(CLOSES),--redefine-sym $(it)=proved_$(it)) bin/lib/proved.o
-	gcc -std=gnu99 -O2 -fPIC $(SANITIZER) -Wall -Wextra -DADDRMAN_VERSION='"$(VERSION)"' -c -o bin/lib/edges.o \
-		bindings/edges.c
-	ld -r -o bin/lib/addrman.o bin/lib/proved.o bin/lib/edges.o
-	objcopy --wildcard --keep-global-symbol='addrman_*' bin/lib/addrman.o
-	rm -f bin/lib/libaddrman.a
-	ar rcs bin/lib/libaddrman.a bin/lib/addrman.o
-	gcc -shared $(SANITIZER) -o bin/lib/libaddrman.so.1 -Wl,-soname,libaddrman.so.1 -Wl,-z,defs -Wl,-z,now \
-		-Wl,-z,relro -Wl,--version-script=bindings/addrman.map bin/lib/addrman.o
-	ln -sf libaddrman.so.1 bin/lib/libaddrman.so
-	rm bin/lib/addrman.o bin/lib/proved.o bin/lib/edges.o
+		$(foreach it,$(CLOSES),--redefine-sym $(it)=proved_$(it)) $(BUILT)/proved.o
+	gcc -std=gnu99 -O2 -fPIC $(SANITIZER) $(CPPFLAGS) $(CFLAGS) -Wall -Wextra \
+		-DADDRMAN_VERSION='"$(VERSION)"' -c -o $(BUILT)/edges.o bindings/edges.c
+	ld -r -o $(BUILT)/addrman.o $(BUILT)/proved.o $(BUILT)/edges.o
+	objcopy --wildcard --keep-global-symbol='addrman_*' $(BUILT)/addrman.o
+	rm -f $(BUILT)/libaddrman.a
+	ar rcs $(BUILT)/libaddrman.a $(BUILT)/addrman.o
+	gcc -shared $(SANITIZER) $(LDFLAGS) -o $(BUILT)/libaddrman.so.1 -Wl,-soname,libaddrman.so.1 -Wl,-z,defs -Wl,-z,now \
+		-Wl,-z,relro -Wl,--version-script=bindings/addrman.map $(BUILT)/addrman.o
+	ln -sf libaddrman.so.1 $(BUILT)/libaddrman.so
+	rm $(BUILT)/addrman.o $(BUILT)/proved.o $(BUILT)/edges.o
 
 lib-test: bin/addrman lib
 	tools/lib_test
@@ -210,6 +226,8 @@ ci-lib-test:
 bin/addrman:
 	$(MAKE) all
 
+# A document without the files that it links to keeps the words of these links.
+ALONE := s/\[([^]]*)\]\([^\#)][^)]*\)/\1/g
 install: bin/addrman
 	install -d $(DESTDIR)$(BINDIR) $(DESTDIR)$(MANDIR)/man1 $(DESTDIR)$(COMPLETIONS)
 	install -d $(DESTDIR)$(DOCDIR)
@@ -218,7 +236,9 @@ install: bin/addrman
 		> $(DESTDIR)$(MANDIR)/man1/addrman.1
 	chmod 644 $(DESTDIR)$(MANDIR)/man1/addrman.1
 	install -m 644 tools/addrman.bash $(DESTDIR)$(COMPLETIONS)/addrman
-	install -m 644 docs/FORMATS.md LICENSE $(DESTDIR)$(DOCDIR)
+	sed -E '$(ALONE)' docs/FORMATS.md > $(DESTDIR)$(DOCDIR)/FORMATS.md
+	chmod 644 $(DESTDIR)$(DOCDIR)/FORMATS.md
+	install -m 644 LICENSE $(DESTDIR)$(DOCDIR)
 	test ! -d bin/lib || $(MAKE) install-lib
 
 # Bitcoin Core has a file addrman.h too, so the headers have a folder of their own:
@@ -250,16 +270,27 @@ uninstall:
 	-rmdir --ignore-fail-on-non-empty $(wildcard $(DESTDIR)$(DOCDIR) \
 		$(DESTDIR)$(INCLUDEDIR)/libaddrman $(DESTDIR)$(LIBDIR)/cmake/addrman)
 
-# What README.md names by a link is packed too, and what the packed documents name.
-PACKED := LICENSE README.md CHANGELOG.md CONTRIBUTING.md SECURITY.md docs examples bindings vectors \
+# What the packed documents name by a link is packed too, but for docs/inside and the README of the
+# sources: the packed one is another.
+PACKED := LICENSE CHANGELOG.md SECURITY.md docs examples bindings vectors \
 	bench/README.md plain/README.md plain/face/README.md plain/face/examples/node.rs tools/addrman.bash
 
-dist: bin/addrman
+dist: bin/addrman book
 	rm -rf bin/$(DIST) && mkdir -p bin/$(DIST)
 	cp --parents -r $(PACKED) bin/$(DIST)
-	cp bin/addrman bin/$(DIST)
+	rm -r bin/$(DIST)/docs/inside
+	sed -E -i 's/\[([^]]*)\]\((inside|\.\.\/README\.md)[^)]*\)/\1/g' \
+		bin/$(DIST)/docs/*.md bin/$(DIST)/bench/README.md bin/$(DIST)/plain/README.md
+	cp -r bin/addrman bin/book bin/$(DIST)
+	test ! -d bin/lib || (mkdir bin/$(DIST)/lib && cp bin/lib/libaddrman.a bin/lib/libaddrman.so.1 bin/$(DIST)/lib)
+	sed -e 's|@VERSION@|$(VERSION)|' -e 's|@MACHINE@|$(BUILT_FOR)|' \
+		-e "s|@GLIBC@|$$(readelf -V bin/addrman | grep -o 'GLIBC_[0-9.]*' | sort -Vu | tail -1 | cut -c7-)|" \
+		tools/tarball.md > bin/$(DIST)/README.md
 	find bin/$(DIST) -name __pycache__ -prune -exec rm -r {} +
 	find bin/$(DIST) -type f -perm -u+x -exec chmod 755 {} + -o -type f -exec chmod 644 {} + \
 		-o -type d -exec chmod 755 {} +
 	tar -C bin --owner=0 --group=0 --sort=name --mtime=@0 -czf bin/$(DIST).tar.gz $(DIST)
 	rm -r bin/$(DIST)
+
+release:
+	tools/release

@@ -26,8 +26,9 @@
  *   result other than ADDRMAN_OK the outputs are as they were, but for what the result is about:
  *   *length after ADDRMAN_ERR_SHORT_BUFFER, *fault after ADDRMAN_ERR_REFUSED, and what the call
  *   says. *fault is written after no other result.
- * Layout. The structs and the calls below are the ABI. ADDRMAN_ABI changes with them; compare it
- *   with addrman_abi().
+ * Layout. The structs and the calls below are the ABI. Its major number is that of the soname
+ *   (libaddrman.so.1), and changes when a program that was built before would break. Its minor
+ *   number changes when calls are added. A library fits this header if ADDRMAN_ABI_FITS.
  *
  * PROOFS
  *
@@ -50,7 +51,13 @@
 extern "C" {
 #endif
 
-#define ADDRMAN_ABI 2u
+#define ADDRMAN_ABI_MAJOR 1u
+#define ADDRMAN_ABI_MINOR 1u
+#define ADDRMAN_ABI       (ADDRMAN_ABI_MAJOR << 16 | ADDRMAN_ABI_MINOR)
+
+/* Whether the library that returned `abi` from addrman_abi() has all that this header declares. */
+#define ADDRMAN_ABI_FITS(abi) \
+    ((abi) >> 16 == ADDRMAN_ABI_MAJOR && ((abi) & 0xffffu) >= ADDRMAN_ABI_MINOR)
 
 #if defined(_WIN32)
 #error "libaddrman is built for ELF systems"
@@ -95,7 +102,7 @@ enum {
     ADDRMAN_ERR_SHORT_BUFFER = 6, /* the output has less room than *length then says */
     ADDRMAN_ERR_REFUSED      = 7, /* the bytes are no message, file or asmap; *fault says why */
     ADDRMAN_NONE             = 8, /* nothing to return: no candidate, no record, no collision */
-    ADDRMAN_EXHAUSTED        = 9  /* the random words were used up: call with more */
+    ADDRMAN_EXHAUSTED        = 9  /* the random words were used up: call with the same and more */
 };
 
 /* Why bytes are refused: the first fault from their start. */
@@ -243,6 +250,10 @@ typedef struct addrman {
 ADDRMAN_SIZE(addrman, 16);
 #define ADDRMAN_INIT { 0, false }
 
+/* The tables hold at most this number of records: one for each slot. Proved: `few_records` in
+ * crates/table_machine. */
+#define ADDRMAN_MAX_RECORDS 81920u
+
 /* The chain of a file. A signet of one's own is the four bytes with which its files begin as a
  * number above 255, the first byte highest: 0x0a03cf40 is the default signet's. */
 typedef uint32_t addrman_chain;
@@ -299,7 +310,9 @@ ADDRMAN_CALL_OF(1, 5) addrman_result addrman_write_file(addrman *am, addrman_cha
 
 /* The library opens no file. A save says what to do in the folder of peers.dat, one request after
  * another, and has its own copy of the file, so the tables may change meanwhile. The rules for
- * objects of type addrman hold of it. */
+ * objects of type addrman hold of it. A save that is over is closed, whether it succeeded
+ * (addrman_save_next returns ADDRMAN_NONE) or failed (addrman_save_done is called with false). One
+ * that is given up before is closed by addrman_save_close, which does nothing after the end. */
 typedef struct addrman_save {
     void *impl;
     bool is_open;
@@ -328,19 +341,19 @@ ADDRMAN_CALL addrman_result addrman_save_begin(addrman_save *save, addrman *am,
 
 /* Writes what to do next, the bytes to append, and how many they are: 0 of another request. It says
  * the same until addrman_save_done.
- *   ADDRMAN_NONE              the file is saved
+ *   ADDRMAN_NONE              the file is saved, and the save is closed
  *   ADDRMAN_ERR_SHORT_BUFFER  only *request and *length are written: call it with more room
- * Proved: NextCall; the save is as it was.
+ * Proved: OnSave, NextCall; the save is as it was, unless it is closed.
  * Codes: CLOSED, NONE, SHORT_BUFFER. */
 ADDRMAN_CALL_OF(1, 2, 5) addrman_result addrman_save_next(addrman_save *save,
     addrman_request *request, uint8_t *out, size_t capacity, size_t *length);
 
-/* What was to be done has succeeded, or has failed: then the save is over, and closed. Proved:
- * DoneCall.
+/* What was to be done has succeeded: addrman_save_next says what comes next, also after the last
+ * request. Or it has failed, and the save is closed. Proved: DoneCall.
  * Codes: CLOSED. */
 ADDRMAN_CALL addrman_result addrman_save_done(addrman_save *save, bool succeeded);
 
-/* Frees all memory of the object, and closes it. */
+/* Frees all memory of a save that is not over, and closes it. */
 ADDRMAN_API void addrman_save_close(addrman_save *save);
 
 /* --------------------------------------------------------------------------------- messages */
@@ -464,7 +477,8 @@ ADDRMAN_SIZE(addrman_picked, 40);
 /* Picks a peer to connect to, of a set of networks. 300 words are enough nearly always; tables with
  * few records can need thousands.
  *   ADDRMAN_NONE       there is no candidate
- *   ADDRMAN_EXHAUSTED  call with more words
+ *   ADDRMAN_EXHAUSTED  call again with the same words and more after them: of calls with others no
+ *                      law says how often they pick a peer
  * Proved: PickCall (`select`); the tables are as they were.
  * Codes: CLOSED, then NONE or EXHAUSTED. */
 ADDRMAN_CALL_OF(1, 7) addrman_result addrman_select(addrman *am, bool new_only, uint32_t nets,

@@ -27,8 +27,12 @@ using key = std::array<std::uint8_t, 32>;
 using seed = std::array<std::uint64_t, 2>;
 using words = std::vector<std::uint64_t>;
 
-// The version of the library that is linked.
+// The version of the library that is linked, and whether it has all that these headers declare.
 inline std::string_view version() { return addrman_version(); }
+inline bool fits() { return ADDRMAN_ABI_FITS(addrman_abi()); }
+
+// The tables hold at most this number of records.
+inline constexpr std::size_t max_records = ADDRMAN_MAX_RECORDS;
 
 // Bytes are no message, file or asmap: the first fault.
 struct refused : std::runtime_error {
@@ -322,7 +326,8 @@ public:
         return known != 0;
     }
 
-    // Empty if there is no candidate; *exhausted tells whether more words may find one.
+    // Empty if there is no candidate. If *exhausted is true afterwards, call it again with the same
+    // words and more after them.
     std::optional<addrman_picked> select(bool new_only, std::uint32_t nets, view<std::uint64_t> w,
         std::uint32_t now, bool *exhausted = nullptr)
     {
@@ -650,7 +655,7 @@ public:
         detail::check(addrman_save_begin(save_.get(), t.am_.get(), chain, max));
     }
 
-    // What to do next, or nothing if the file is saved.
+    // What to do next, or nothing if the file is saved, which closes the save.
     std::optional<request> next()
     {
         request out{0, bytes(max_)};
@@ -662,7 +667,7 @@ public:
         return out;
     }
 
-    // It has succeeded, or has failed, which ends the save.
+    // It has succeeded, or has failed, which closes the save.
     void done(bool succeeded) { detail::check(addrman_save_done(save_.get(), succeeded)); }
 };
 

@@ -26,7 +26,7 @@
 #include <sys/random.h>
 #include <time.h>
 
-enum { MAX_CONNECTIONS = 16, MAX_PAYLOAD = 49003 };
+enum { MAX_CONNECTIONS = 16, MAX_PAYLOAD = 49003, MAX_WORDS = ADDRMAN_MAX_RECORDS + 1 };
 
 typedef struct {
     link_to link;
@@ -53,15 +53,22 @@ static uint32_t now(void)
     return (uint32_t)time(NULL);
 }
 
-/* Random words of the system. */
-static const uint64_t *draw(size_t count)
+/* Fills memory with random bytes of the system. */
+static void draw_bytes(void *to, size_t length)
 {
-    static uint64_t words[70000]; /* one for each record, and one more */
-    for (size_t done = 0; done < 8 * count;) {
-        ssize_t some = getrandom((char *)words + done, 8 * count - done, 0);
+    for (size_t done = 0; done < length;) {
+        ssize_t some = getrandom((char *)to + done, length - done, 0);
         if (some > 0) done += (size_t)some;
         else if (errno != EINTR) stop("getrandom", 0);
     }
+}
+
+/* Random words: at most one for each record, and one more. */
+static const uint64_t *draw(size_t count)
+{
+    static uint64_t words[MAX_WORDS];
+    if (count > MAX_WORDS) stop("too many random words", (unsigned)count);
+    draw_bytes(words, count * sizeof *words);
     return words;
 }
 
@@ -98,12 +105,12 @@ static void open_tables(const char *folder)
         size_t length = fread(bytes, 1, sizeof bytes, in);
         if (ferror(in)) stop("peers.dat cannot be read", errno);
         fclose(in);
-        code = addrman_open_file(&am, bytes, length, ADDRMAN_MAIN, seed, bytes, 0, &fault);
+        code = addrman_open_file(&am, bytes, length, ADDRMAN_MAIN, seed, NULL, 0, &fault);
         if (code == ADDRMAN_ERR_REFUSED) stop("peers.dat is refused, fault", fault.kind);
     } else if (errno != ENOENT) {
         stop("peers.dat cannot be opened", errno);
     } else {
-        code = addrman_open(&am, (const uint8_t *)draw(4), seed, bytes, 0);
+        code = addrman_open(&am, (const uint8_t *)draw(4), seed, NULL, 0);
     }
     if (code) stop("open", code);
     if (addrman_bans_open(&bans, "", 0, &fault) || addrman_answers_open(&answers)
@@ -139,8 +146,7 @@ static void save(const char *folder)
         if (!done) stop("request of a save", request);
         if ((code = addrman_save_done(&job, true))) stop("save_done", code);
     }
-    if (code != ADDRMAN_NONE) stop("save_next", code);
-    addrman_save_close(&job);
+    if (code != ADDRMAN_NONE) stop("save_next", code); /* with NONE the save is closed */
     close(in);
 }
 
@@ -293,16 +299,28 @@ static void reach(const addrman_peer *peer)
     send_message(&one->link, "getaddr", NULL, 0);
 }
 
+/* Picks a peer. Where the random words do not suffice, they are kept, and more follow them. */
+static addrman_result pick(addrman_picked *picked)
+{
+    static uint64_t words[MAX_WORDS];
+    addrman_result code = ADDRMAN_EXHAUSTED;
+    uint32_t moment = now();
+    for (size_t have = 0, want = 300; code == ADDRMAN_EXHAUSTED && want <= MAX_WORDS; want *= 2) {
+        draw_bytes(words + have, (want - have) * sizeof *words);
+        have = want;
+        code = addrman_select(&am, false, ADDRMAN_ALL_NETS, words, have, moment, picked);
+    }
+    return code;
+}
+
 /* Chooses peers to connect to, no two of one network group, until ten are chosen or tries fail. */
 static void connect_all(bool has_network)
 {
     for (uint32_t attempt = 1; attempt <= 100; attempt++) {
         addrman_picked picked;
         uint32_t verdict;
-        addrman_result code = addrman_select(&am, false, ADDRMAN_ALL_NETS, draw(10000), 10000,
-            now(), &picked);
+        addrman_result code = pick(&picked);
         if (code == ADDRMAN_NONE) return;
-        if (code == ADDRMAN_EXHAUSTED) continue;
         if (code || addrman_opener_judge(&am, &picked, now(), attempt, &verdict))
             stop("select", code);
         /* The port tells the node itself. */

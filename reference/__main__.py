@@ -36,7 +36,7 @@ def main() -> int:
     said: list[str] = []
     try:
         words = changed_folder(sys.argv[1:])
-        paths: dict[str, str] = {}
+        paths: dict[str, str | None] = {}
         plain = plain_words(words, paths)
         code, text = command.run(plain, lambda most=MAXIMUM_PIECE: os.read(0, most), write, Folder(paths), said)
     except Stop as stop:

@@ -217,18 +217,18 @@ def colouring_options(arguments: list[bytes]) -> tuple[str | None, list, str, Fi
 
 def sum_said(file: peers_file.PeersFile, asmap: Asmap, core: bool) -> str:
     """What is said of a file whose checksum of the asmap is not that of the asmap in use."""
-    anew = "its new records are placed anew"
+    anew = "its new records are re-bucketed"
     if not file.new or file.sum == peers_file.asmap_sum_of(asmap, core):
         return ""
     if asmap.data is None:
-        return f"peers.dat was written under an asmap, and asmap.dat is missing: {anew}"
+        return f"peers.dat was written with an asmap, and asmap.dat is missing: {anew}"
     if file.sum == peers_file.NO_SUM:
-        return f"peers.dat was written without an asmap: {anew}"
+        return f"peers.dat was written without an asmap, and asmap.dat is used: {anew}"
     if file.sum != peers_file.asmap_sum_of(asmap, not core):
-        return f"peers.dat was written under another asmap: {anew}"
+        return f"peers.dat was written with another asmap than asmap.dat: {anew}"
     if core:
-        return f"peers.dat was written by addrman under this asmap: leave out --core, else {anew}"
-    return f"peers.dat was written by Bitcoin Core under this asmap: use --core, else {anew}"
+        return f"peers.dat was written by addrman with asmap.dat: leave out --core, or {anew}"
+    return f"peers.dat was written by Bitcoin Core with asmap.dat: use --core, or {anew}"
 
 
 def looked_up(peer: Peer, asmap: Asmap) -> str:
@@ -491,7 +491,7 @@ class Run:
         left_out = len(file.new) - sum(not record.tried for record in tables.records.values())
         self.sum_said = sum_said(file, asmap, core)
         if self.sum_said and left_out:
-            self.sum_said += f"; left out: {left_out}"
+            self.sum_said += f"; records left out: {left_out}"
         return tables
 
     def show(self, chain: bytes, keyed: bool):
@@ -596,8 +596,8 @@ class Run:
         read = self.load("banlist.json", bans.MAXIMUM_BYTES, 16, lambda data: bans.read_list(data, core))
         listed = bans.BanList({}, [], {}, [], core) if read is None else read
         if listed.others:
-            after_save = "which a save keeps" if core else "which a save leaves out"
-            self.passed_over = f"elements of banlist.json passed over, {after_save}: {len(listed.others)}; "
+            after_save = "kept by a save" if core else "dropped by a save"
+            self.passed_over = f"elements of banlist.json skipped, {after_save}: {len(listed.others)}; "
         return listed
 
     def ban(self, core: bool, subnet_text: bytes, now_text: bytes, until_text: bytes):

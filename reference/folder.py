@@ -24,7 +24,7 @@ class Failed(Exception):
 class Folder:
     """The current folder, with files of other paths in the place of some. It has a file open, and itself while it is locked."""
 
-    def __init__(self, paths: dict[str, str] | None = None):
+    def __init__(self, paths: dict[str, str | None] | None = None):
         self.paths = paths or {}
         self.file = self.folder = -1
 
@@ -38,8 +38,11 @@ class Folder:
     def size(self, name: str) -> int | None:
         """The length of a file, None if there is none. It is open then. One that an option names has to be there."""
         self.close()
+        path = self.paths.get(name, name)
+        if path is None:
+            return None
         try:
-            self.file = os.open(self.paths.get(name, name), os.O_RDONLY | os.O_NONBLOCK | os.O_CLOEXEC)
+            self.file = os.open(path, os.O_RDONLY | os.O_NONBLOCK | os.O_CLOEXEC)
         except FileNotFoundError:
             if name in self.paths:
                 raise Stop(14, f"{name} is missing")

@@ -5,7 +5,6 @@ import os
 from folder import Stop
 from text import read_digits
 
-TAKE_CORE = "replay opener show picture raw info groups risk from-raw diff ban unban banned bans".split()
 TAKE_RAW = "picture info groups risk".split()
 TAKE_KEY_FILE = "replay opener from-raw".split()
 # The options that name a file: in whose place it is read, and the commands that take the option.
@@ -15,7 +14,15 @@ OTHER_FILES = {"--peers": ("peers.dat", "show picture raw info groups risk diff"
                "--anchors": ("anchors.dat", ["show"])}
 # The options of a command that may lack their file.
 MAY_LACK = {("diff", "--peers"), ("show", "--anchors")}
+# The commands that place records under the asmap beside the file of peers.
+PLACING = "picture raw info groups risk".split()
 NO_ARGUMENT = "--"
+ANY_NUMBER = 1 << 64
+OTHERS = ""
+# The options in the order in which the run takes them, and how many values each has at most. The arguments that are no options are among
+# them.
+ORDER = {"--exempt": 1, "--services": 1, "--skip-bad-ports": 0, "--core": 0, "--raw": 1, "--by": 1, OTHERS: 0, "--peers": 1, "--anchors": 1,
+         "--asmap": 1, "--bans": 1, "--key": 1, "--key-file": 1, "--net": 1, "--magic": 1, "--no-key": 0, "--mark": ANY_NUMBER}
 
 
 def changed_folder(arguments: list[str]) -> list[str]:
@@ -52,22 +59,36 @@ def with_key(words: list[str]) -> list[str]:
             found.append(name + equals + path)
             continue
         if not equals:
-            path = rest.pop(0) if rest else "-"
-        key = None if path == "-" else key_in(path)
+            path = rest.pop(0)
+        key = None if path == "-" or not equals and path == NO_ARGUMENT else key_in(path)
         found.append(name if key is None else f"--key={key}")
     return found
 
 
-def with_raw_first(words: list[str]) -> tuple[list[str], bool]:
-    """Arguments with `--raw -` as the first ones, if it is among them, and whether it is."""
-    for at, word in enumerate(words):
-        size = 1 if word == "--raw=-" else 2 if words[at:at + 2] == ["--raw", "-"] else 0
-        if size:
-            return [*words[at:at + size], *words[:at], *words[at + size:]], True
-    return words, False
+def is_option(word: str) -> bool:
+    """Whether an argument is an option, by its form."""
+    return word.startswith("-") and word != "-"
 
 
-def without_files(command: str, words: list[str], paths: dict[str, str]) -> list[str]:
+def in_order(command: str, words: list[str]) -> list[str]:
+    """Arguments in the order in which the run takes them, each option with its values. NO_ARGUMENT follows one that lacks its value."""
+    found: dict[str, list[str]] = {name: [] for name in ORDER}
+    rest = list(words)
+    while rest:
+        word = rest.pop(0)
+        name, equals, _ = word.partition("=")
+        if not is_option(word) or name not in ORDER:
+            name = OTHERS
+        values = []
+        while rest and len(values) < ORDER[name] and not equals and not is_option(rest[0]):
+            values.append(rest.pop(0))
+        if ORDER[name] and not equals and not values and (command, name) not in MAY_LACK:
+            values.append(NO_ARGUMENT)
+        found[name] += [word, *values]
+    return [word for own in found.values() for word in own]
+
+
+def without_files(command: str, words: list[str], paths: dict[str, str | None]) -> list[str]:
     """Arguments without the options that name a file; their paths go to `paths`. An option that may lack its file stays, `--anchors` as the
     first one."""
     found, rest = [], list(words)
@@ -83,16 +104,23 @@ def without_files(command: str, words: list[str], paths: dict[str, str]) -> list
             if not equals and (not rest or rest[0].startswith("-")):
                 continue
         if not equals:
-            path = rest.pop(0) if rest else ""
-        if path in ("", "-") or name in paths:
+            path = rest.pop(0)
+        if path in ("", "-") or not equals and path == NO_ARGUMENT or name in paths:
             found.append(NO_ARGUMENT)
         else:
             paths[name] = path
     return found
 
 
-def plain_words(arguments: list[str], paths: dict[str, str]) -> list[str]:
-    """The arguments of the run. The paths of files that are read in the place of others go to `paths`."""
+def asmap_beside(peers: str) -> str | None:
+    """The path of the asmap in the folder of a file of peers; None if there is none."""
+    path = peers.rpartition("/")[0] + "/asmap.dat" if "/" in peers else "asmap.dat"
+    return path if os.path.exists(path) else None
+
+
+def plain_words(arguments: list[str], paths: dict[str, str | None]) -> list[str]:
+    """The arguments of the run. The paths of files that are read in the place of others go to `paths`, None for a file that is not
+    there."""
     if not arguments:
         return arguments
     command, *rest = arguments
@@ -101,12 +129,8 @@ def plain_words(arguments: list[str], paths: dict[str, str]) -> list[str]:
     if command == "-V":
         command = "version"
     asks_anchors = command == "show" and any(word.partition("=")[0] == "--anchors" for word in rest)
-    if command in TAKE_CORE and "--core" in rest and not asks_anchors:
-        at = rest.index("--core")
-        rest = ["--core", *rest[:at], *rest[at + 1:]]
-    has_raw = False
-    if command in TAKE_RAW:
-        rest, has_raw = with_raw_first(rest)
+    rest = in_order(command, rest)
+    has_raw = command in TAKE_RAW and ("--raw=-" in rest or ["--raw", "-"] in [rest[at:at + 2] for at in range(len(rest))])
     if command in TAKE_KEY_FILE:
         rest = with_key(rest)
     words = without_files(command, rest, paths)
@@ -117,4 +141,6 @@ def plain_words(arguments: list[str], paths: dict[str, str]) -> list[str]:
         words.insert(0, "--anchors")
     if asks_anchors and "peers.dat" in paths:
         words.append(NO_ARGUMENT)
+    if command in PLACING and "peers.dat" in paths and "asmap.dat" not in paths:
+        paths["asmap.dat"] = asmap_beside(paths["peers.dat"])
     return [command, *words]

@@ -131,6 +131,12 @@ def what_is_said(record: Record) -> tuple:
     return record.peer, record.source, record.time, record.services
 
 
+def reached(record: Record) -> Record:
+    """A tried record, with a success, which a listing does not have: at its time, or at 1 if that is 0."""
+    record.success = max(record.time, 1)
+    return record
+
+
 def file_of(rows: dict[str, list[tuple[int, int, Record]]], key: bytes, asmap_sum: bytes) -> PeersFile:
     """The file that lists the records in their buckets.
 
@@ -149,7 +155,7 @@ def file_of(rows: dict[str, list[tuple[int, int, Record]]], key: bytes, asmap_su
         if record.peer in known:
             raise Fault(f"tried/{bucket}/{position}: again")
         known[record.peer] = -1
-    return PeersFile(key, new, [record for _, _, record in rows["tried"]], buckets, asmap_sum)
+    return PeersFile(key, new, [reached(record) for _, _, record in rows["tried"]], buckets, asmap_sum)
 
 
 class Listing(Tables):

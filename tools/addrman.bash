@@ -1,20 +1,19 @@
-# Completion of addrman's commands and options for bash.
+# Completion of addrman's commands, options and files for bash.
+
+# Completes files and folders.
+_addrman_files() {
+    compopt -o filenames
+    mapfile -t COMPREPLY < <(compgen -f -- "${1//\\/}")
+}
 
 _addrman() {
     local word=${COMP_WORDS[COMP_CWORD]} before=${COMP_WORDS[COMP_CWORD - 1]}
     local commands="replay opener limit show picture raw info groups risk from-raw compile decompile diff check lookup address ban unban banned bans gen trial help version"
-    local chains="main test testnet4 signet regtest"
     local at=1
-    if [[ ${COMP_WORDS[1]} == -C || ${COMP_WORDS[1]} == --dir ]]; then
+    if [[ ${COMP_WORDS[1]} == -C || ${COMP_WORDS[1]} == --dir && ${COMP_WORDS[2]} != = ]]; then
         at=3
-    fi
-    if ((COMP_CWORD == at - 1)); then
-        mapfile -t COMPREPLY < <(compgen -d -- "$word")
-        return
-    fi
-    if ((COMP_CWORD == at)); then
-        mapfile -t COMPREPLY < <(compgen -W "$commands" -- "$word")
-        return
+    elif [[ ${COMP_WORDS[1]} == --dir ]]; then
+        at=4
     fi
     # Bash splits --net=main at the equals sign.
     if [[ $word == = ]]; then
@@ -22,58 +21,46 @@ _addrman() {
     elif [[ $before == = ]]; then
         before=${COMP_WORDS[COMP_CWORD - 2]}
     fi
-    if [[ $before == --net ]]; then
-        mapfile -t COMPREPLY < <(compgen -W "$chains" -- "$word")
+    if ((COMP_CWORD < at)) && ((COMP_CWORD > 1)); then
+        compopt -o filenames
+        mapfile -t COMPREPLY < <(compgen -d -- "${word//\\/}")
         return
     fi
-    if [[ $before == --by ]]; then
-        mapfile -t COMPREPLY < <(compgen -W "network source group age" -- "$word")
+    if ((COMP_CWORD == at)); then
+        local options="--help --version"
+        ((at == 1)) && options="-C --dir $options"
+        [[ $word == -* ]] && commands=$options
+        mapfile -t COMPREPLY < <(compgen -W "$commands" -- "$word")
         return
     fi
-    if [[ $before == --raw ]]; then
-        mapfile -t COMPREPLY < <(compgen -W "-" -- "$word")
-        return
-    fi
-    if [[ $before == --key-file || $before == --asmap || $before == --bans ]] ||
-        [[ $before == --peers && ${COMP_WORDS[at]} != diff ]]; then
-        mapfile -t COMPREPLY < <(compgen -f -- "$word")
-        return
-    fi
-    if [[ $before == --anchors && $word != -* ]]; then
-        mapfile -t COMPREPLY < <(compgen -f -W "--net --magic" -- "$word")
-        return
-    fi
-    if [[ $before == --peers && $word != -* ]]; then
-        mapfile -t COMPREPLY < <(compgen -f -W "--net --magic --core --asmap" -- "$word")
-        return
-    fi
-    case ${COMP_WORDS[at]} in
-        replay) mapfile -t COMPREPLY < <(compgen -W "--key --key-file --net --magic --core" -- "$word") ;;
-        opener)
-            mapfile -t COMPREPLY < <(compgen -W "--key --key-file --net --magic --core --exempt --services --skip-bad-ports" -- "$word")
+    local command=${COMP_WORDS[at]} tables="--net --magic --core --peers --asmap" options=--help
+    case $before in
+        --net) options="main test testnet4 signet regtest" ;;
+        --by) options="network source group age" ;;
+        --raw) options="-" ;;
+        --key-file | --asmap | --bans) _addrman_files "$word" && return ;;
+        --peers | --anchors)
+            # Of diff and show they may lack their file.
+            [[ $word == -* ]] || { _addrman_files "$word" && return; }
             ;;
-        show) mapfile -t COMPREPLY < <(compgen -W "--net --magic --no-key --core --peers --anchors" -- "$word") ;;
-        from-raw)
-            mapfile -t COMPREPLY < <(compgen -W "--key --key-file --net --magic --core --asmap" -- "$word")
-            ;;
-        risk)
-            mapfile -t COMPREPLY < <(compgen -W "source peer network - --net --magic --core --raw --peers --asmap" -- "$word")
-            ;;
-        picture)
-            mapfile -t COMPREPLY < <(compgen -W "--by --net --magic --core --raw --mark --peers --asmap" -- "$word")
-            ;;
-        info | groups)
-            mapfile -t COMPREPLY < <(compgen -W "--net --magic --core --raw --peers --asmap" -- "$word")
-            ;;
-        raw)
-            mapfile -t COMPREPLY < <(compgen -W "--net --magic --core --peers --asmap" -- "$word")
-            ;;
-        diff) mapfile -t COMPREPLY < <(compgen -W "--peers --net --magic --core --asmap" -- "$word") ;;
-        check | lookup | decompile | address) mapfile -t COMPREPLY < <(compgen -W "--asmap" -- "$word") ;;
-        ban | unban) mapfile -t COMPREPLY < <(compgen -W "--core" -- "$word") ;;
-        banned | bans) mapfile -t COMPREPLY < <(compgen -W "--bans --core" -- "$word") ;;
-        help | --help | -h) mapfile -t COMPREPLY < <(compgen -W "$commands" -- "$word") ;;
     esac
+    if [[ $options == --help ]]; then
+        case $command in
+            replay) options+=" --key --key-file --net --magic --core" ;;
+            opener) options+=" --key --key-file --net --magic --core --exempt --services --skip-bad-ports" ;;
+            show) options+=" --net --magic --no-key --core --peers --anchors" ;;
+            from-raw) options+=" --key --key-file --net --magic --core --asmap" ;;
+            risk) options+=" source peer network - --raw $tables" ;;
+            picture) options+=" --by --raw --mark $tables" ;;
+            info | groups) options+=" --raw $tables" ;;
+            raw | diff) options+=" $tables" ;;
+            check | lookup | decompile | address) options+=" --asmap" ;;
+            ban | unban) options+=" --core" ;;
+            banned | bans) options+=" --bans --core" ;;
+            help | --help | -h) options=$commands ;;
+        esac
+    fi
+    mapfile -t COMPREPLY < <(compgen -W "$options" -- "$word")
 }
 
 complete -F _addrman addrman

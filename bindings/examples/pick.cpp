@@ -28,9 +28,13 @@ int main(int argc, char **argv)
         std::cout << "added " << added.accepted << " of " << added.total << "\n";
 
         for (int attempt = 1; attempt <= 100; attempt++) {
-            libaddrman::words words(3000);
-            for (auto &w : words) w = word();
-            auto picked = known.select(false, ADDRMAN_ALL_NETS, words, now);
+            // Where the words do not suffice, more follow them.
+            libaddrman::words words;
+            std::optional<addrman_picked> picked;
+            for (bool exhausted = true; exhausted && words.size() <= libaddrman::max_records;) {
+                for (int i = 0; i < 300; i++) words.push_back(word());
+                picked = known.select(false, ADDRMAN_ALL_NETS, words, now, &exhausted);
+            }
             if (picked && known.judge(*picked, now, attempt) == ADDRMAN_TAKE) {
                 std::cout << "connect to " << libaddrman::text_of(picked->peer) << "\n";
                 return 0;

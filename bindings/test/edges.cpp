@@ -115,6 +115,12 @@ int main()
     save first(two, ADDRMAN_MAIN, 1000), second(two, ADDRMAN_MAIN, 1000);
     second = std::move(first);
     want(second.next()->what == ADDRMAN_CREATE && is_closed([&] { first.next(); }), "saves are not moved");
+    while (second.next()) second.done(true);
+    want(is_closed([&] { second.next(); }), "a save that is over is open");
+    save failed(two, ADDRMAN_MAIN, 1000);
+    failed.done(false);
+    want(is_closed([&] { failed.next(); }), "a save that failed is open");
+    want(fits() && max_records == 81920, "the library does not fit its headers");
 
     const std::array<std::uint64_t, 3> array{87, 37, 0};
     const words vector(array.begin(), array.end());

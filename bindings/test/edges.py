@@ -1,4 +1,11 @@
-"""Arguments that the Python module refuses or takes, and four threads on one object. Prints how many were tried."""
+"""Arguments that the Python module refuses or takes, four threads on one object, copies, and forks while another thread
+calls. Prints how many were tried."""
+import copy
+import os
+import pickle
+import signal
+import subprocess
+import sys
 import threading
 
 import addrman
@@ -48,6 +55,116 @@ def others():
                  am.risk([], NOW) == (0, 0, 0)]
     if not all(found):
         raise SystemExit(f"answer {found.index(False)} is another")
+
+
+class Growing(list):
+    """A list that is longer than it says, as one is to which another thread appends."""
+
+    def __len__(self):
+        return 1
+
+
+class Long(bytes):
+    """Bytes that say that they are longer."""
+
+    def __bytes__(self):
+        return self
+
+    def __len__(self):
+        return 1 << 20
+
+
+class Wide(str):
+    """A text whose bytes say that they are more."""
+
+    def encode(self, *_):
+        return Long(str.encode(self))
+
+
+def lengths():
+    """No call reads or writes past what it was given, whatever that says of its length. Generators are taken."""
+    entries = [addrman.Entry(NOW, 9, f"8.8.{i}.8:8333") for i in range(100)]
+    with addrman.AddrMan(KEY, SEED) as am:
+        am.add(PEER, SOURCE, NOW, 1, 0, 0, NOW)
+        sets = ["8.8.0.0/16"] * 100
+        found = [addrman.read_message(True, addrman.write_message(True, Growing(entries))) == entries,
+                 addrman.write_message(True, iter(entries)) == addrman.write_message(True, entries),
+                 am.risk(Growing(sets), NOW) == am.risk(sets, NOW) == am.risk(iter(sets), NOW),
+                 am.take_message(True, addrman.write_message(True, entries), SOURCE, Growing(range(100)), NOW)[1] == 100,
+                 am.take_message(True, Long(addrman.write_message(True, entries)), SOURCE, (i for i in range(100)), NOW)[1] == 100,
+                 addrman.name_of(Wide(SOURCE)) == SOURCE, addrman.Bans(Long(b"")).file() == addrman.Bans().file(),
+                 addrman.subnet(Wide("1.2.3.0/24")) == ("1.2.3.0", 24), am.risk([Wide("8.8.0.0/16")], NOW) == am.risk(sets, NOW)]
+    if not all(found):
+        raise SystemExit(f"length {found.index(False)} is another")
+
+
+def copies():
+    """Objects have one owner, which is opened as often as it is initialized."""
+    with addrman.AddrMan(KEY, SEED) as am, addrman.Bans() as bans, addrman.Answers() as answers, addrman.Limiter() as limiter, \
+            addrman.Save(am, addrman.MAIN, 10) as save:
+        for each in (am, bans, answers, limiter, save):
+            for way in (copy.copy, copy.deepcopy, pickle.dumps):
+                refuses(TypeError, lambda: way(each))
+        am.add(PEER, SOURCE, NOW, 1, 0, 0, NOW)
+        bans.add("1.2.3.0/24", 1, 9)
+        for _ in range(100):
+            am.__init__(KEY, SEED)
+            bans.__init__()
+            answers.__init__()
+            limiter.__init__()
+            save.__init__(am, addrman.MAIN, 10)
+        if am.size() != (0, 0, 0) or bans.covering(SOURCE, 8) or save.next() != ("create", b""):
+            raise SystemExit("an object that is initialized again is as it was")
+        refuses(ValueError, lambda: am.__init__(bytes(31), SEED))
+        am.size()
+    with addrman.AddrMan(KEY, SEED) as am:
+        save = addrman.Save(am, addrman.MAIN, 1000)
+        while save.next():
+            save.done()
+        closed(save.next)
+        save = addrman.Save(am, addrman.MAIN, 1000)
+        save.done(False)
+        closed(save.next)
+
+
+def forks():
+    """A child has each object as it was, while another thread of its parent calls."""
+    am, bans, answers, is_over = addrman.AddrMan(KEY, SEED), addrman.Bans(), addrman.Answers(), threading.Event()
+
+    def work():
+        i = 0
+        while not is_over.is_set():
+            i += 1
+            am.add(f"20.{i % 250}.{i // 250 % 250}.1:8333", SOURCE, NOW, 1, 0, i, NOW)
+            answers.answer(am, bans, addrman.IPV4, i, True, False, NOW, range(2 + i))
+            addrman.Limiter().close()
+
+    thread = threading.Thread(target=work)
+    thread.start()
+    for _ in range(30):
+        child = os.fork()
+        if child == 0:
+            # It ends by itself, whatever it waits for.
+            signal.alarm(20)
+            size = am.size()
+            am.add(PEER, SOURCE, NOW, 1, 0, 0, NOW)
+            answers.forget()
+            os._exit(0 if len(am.records()) in (size.new, size.new + 1) and bans.file() else 1)
+        if os.waitpid(child, 0)[1] != 0:
+            is_over.set()
+            raise SystemExit("a child that was forked during a call cannot use the objects")
+    is_over.set()
+    thread.join()
+    am.add(PEER, SOURCE, NOW, 1, 0, 0, NOW)
+
+
+def imports():
+    """Without the library an import says where it looked, and how to get it."""
+    nowhere = {**os.environ, "ADDRMAN_LIBRARY": "/nowhere/libaddrman.so.1"}
+    for environment, looked in ((nowhere, "/nowhere/libaddrman.so.1, which ADDRMAN_LIBRARY names"), ({**nowhere, "ADDRMAN_LIBRARY": "libc.so.6"}, "")):
+        said = subprocess.run([sys.executable, "-c", "import addrman"], env=environment, capture_output=True, text=True).stderr.splitlines()[-1]
+        if not said.startswith("ImportError: ") or looked not in said or looked and "make plain-lib" not in said:
+            raise SystemExit(f"an import without the library says {said}")
 
 
 def main():
@@ -150,11 +267,15 @@ def main():
         closed(lambda: am.take_unbanned(bans, True, b"\0", SOURCE, 1, 1, addrman.ALL_NETS, [], NOW))
         if am.take_first(True, b"\0", SOURCE, 1, [], NOW) != (0, 0) or addrman.judge_feeler(0, NOW, 1) != "take":
             raise SystemExit("an empty message, or a feeler, is another")
-    if not addrman.version().startswith("0.") or addrman.FAULTS[40] != "form" or len(addrman.FAULTS) != 26 or not addrman.asmap_is_sane(asmap):
+    if not addrman.version().startswith("0.") or addrman.FAULTS[40] != "form" or len(addrman.FAULTS) != 26 or addrman.MAX_RECORDS != 81_920 or not addrman.asmap_is_sane(asmap):
         raise SystemExit("a text is another")
     refuses(ValueError, lambda: addrman.judge_feeler(0, NOW, -1))
     others()
-    print(f"Python: {tried} calls with wrong arguments or objects, and four threads on one object")
+    lengths()
+    copies()
+    forks()
+    imports()
+    print(f"Python: {tried} calls with wrong arguments or objects, four threads on one object, copies, and 30 forks during calls")
 
 
 main()

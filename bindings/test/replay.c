@@ -269,7 +269,7 @@ int main(int argc, char **argv)
     addrman_fault fault;
     uint32_t code;
     if (argc != 2) return 2;
-    if (addrman_abi() != ADDRMAN_ABI) fail("abi", addrman_abi());
+    if (!ADDRMAN_ABI_FITS(addrman_abi())) fail("abi", addrman_abi());
     if (addrman_size(&am, &counts) != ADDRMAN_ERR_CLOSED) fail("a closed handle", 0);
     FILE *in = strlen(argv[1]) == 64 ? NULL : fopen(argv[1], "rb");
     if (in) {

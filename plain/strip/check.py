@@ -32,6 +32,10 @@ SHAPES = {
     'path of std': r'use[\w:{},*]*;',
     'extern "C": allocator': NAME + r':Global,?|,' + NAME + r':Global',
     'extern "C": slice': NAME + r':&(mut)?\[.*\]',
+    'let .. else: pattern': r'[^;=]*',
+    'let .. else': r'else',
+    'unsafe attribute': r'unsafe\(|\)',
+    'unsafe extern': r'unsafe',
 }
 WORDS = {'ghost', 'requires', 'ensures', 'Ledger', 'Model', 'tactic', 'Drop'}
 

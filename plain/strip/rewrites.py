@@ -3,6 +3,7 @@
 Each rule is a difference between the two languages, and knows nothing of a crate here.
 """
 from names import items, mentions, starts_path, uses
+from older import let_else, unsafe_words, younger
 from tokens import IDENT, STRING
 
 # The modules of std that Rust has as Rattle has them. The others are those of plain/std.
@@ -175,5 +176,5 @@ def builder(source, commit):
 
 def rewrite_all(source, commit):
     builder(source, commit)
-    for rewrite in (paths_of_std, methods, plain_enums, c_functions, prelude, entry):
+    for rewrite in (paths_of_std, methods, plain_enums, c_functions, let_else, unsafe_words, prelude, younger, entry):
         rewrite(source)

@@ -1,4 +1,5 @@
 """Writes the crates of a checkout as a Cargo workspace."""
+import json
 import os
 import re
 import shutil
@@ -22,50 +23,30 @@ version.workspace = true
 edition.workspace = true
 publish.workspace = true
 rust-version.workspace = true
+'''
 
-# Some parameters, fields and functions are there only for contracts, and a bound that is gone
-# leaves its parentheses.
-[lints.rust]
-dead_code = "allow"
-unused_parens = "allow"
-unused_variables = "allow"
-
-# A loop or a match is proved where a closure or a method would want a proof of its own, an index or
-# a length is what a contract speaks of, a large variant lies in place, since a box may lack memory,
-# slices are compared as references, and C passes pointers to functions that are not marked unsafe.
-[lints.clippy]
-collapsible_if = "allow"
-collapsible_match = "allow"
-explicit_auto_deref = "allow"
-explicit_counter_loop = "allow"
-if_same_then_else = "allow"
-large_enum_variant = "allow"
-len_without_is_empty = "allow"
-len_zero = "allow"
-manual_contains = "allow"
-manual_div_ceil = "allow"
-manual_filter = "allow"
-manual_find = "allow"
-manual_flatten = "allow"
-manual_is_multiple_of = "allow"
-manual_map = "allow"
-manual_ok_err = "allow"
-manual_range_contains = "allow"
-manual_unwrap_or = "allow"
-manual_unwrap_or_default = "allow"
-match_like_matches_macro = "allow"
-needless_borrow = "allow"
-needless_lifetimes = "allow"
-needless_match = "allow"
-needless_question_mark = "allow"
-needless_range_loop = "allow"
-not_unsafe_ptr_arg_deref = "allow"
-question_mark = "allow"
-redundant_closure = "allow"
-redundant_pattern_matching = "allow"
-should_implement_trait = "allow"
-too_many_arguments = "allow"
-type_complexity = "allow"
+# What the lints of rustc and clippy would say of the proved sources.
+ALLOWED = '''// Some parameters, fields and functions are there only for contracts, and a bound that is gone
+// leaves its parentheses.
+#![allow(
+    dead_code, unused_parens, unused_variables
+)]
+// A loop or a match is proved where a closure or a method would want a proof of its own, an index or
+// a length is what a contract speaks of, a large variant lies in place, since a box may lack memory,
+// slices are compared as references, and C passes pointers to functions that are not marked unsafe.
+#![allow(
+    clippy::collapsible_if, clippy::collapsible_match, clippy::explicit_auto_deref,
+    clippy::explicit_counter_loop, clippy::if_same_then_else, clippy::large_enum_variant,
+    clippy::len_without_is_empty, clippy::len_zero, clippy::manual_contains,
+    clippy::manual_div_ceil, clippy::manual_filter, clippy::manual_find, clippy::manual_flatten,
+    clippy::manual_is_multiple_of, clippy::manual_map, clippy::manual_ok_err,
+    clippy::manual_range_contains, clippy::manual_unwrap_or, clippy::manual_unwrap_or_default,
+    clippy::match_like_matches_macro, clippy::needless_borrow, clippy::needless_lifetimes,
+    clippy::needless_match, clippy::needless_question_mark, clippy::needless_range_loop,
+    clippy::not_unsafe_ptr_arg_deref, clippy::question_mark, clippy::redundant_closure,
+    clippy::redundant_pattern_matching, clippy::should_implement_trait,
+    clippy::too_many_arguments, clippy::type_complexity
+)]
 '''
 
 FROM_PACKAGES = '''[source.crates-io]
@@ -107,12 +88,14 @@ def read_sources(root, crates):
 
 
 def commit_of(root):
-    """The commit of a checkout, and whether files that the script reads differ from it."""
+    """The commit of a checkout, and whether files that the script reads differ from it. Who builds a package names it."""
     def git(*words):
         done = subprocess.run(['git', '-C', root, *words], stdout=subprocess.PIPE,
                               stderr=subprocess.DEVNULL, text=True, check=False)
         return done.stdout.strip() if done.returncode == 0 else ''
 
+    if os.environ.get('ADDRMAN_COMMIT'):
+        return os.environ['ADDRMAN_COMMIT']
     commit = git('rev-parse', '--short=12', 'HEAD') if shutil.which('git') else ''
     if not commit:
         return 'an unknown commit'
@@ -159,7 +142,7 @@ def why_not(root):
     found = re.match(r'rustc (\d+)\.(\d+)', said.stdout)
     if not found or [int(n) for n in found.groups()] < [int(n) for n in least.split('.')]:
         return 'rustc is older than %s' % least
-    return '' if has_packages(registry) else 'the packages of plain/README.md are not there'
+    return '' if has_packages(registry) else 'the packages that README.md names are not there'
 
 
 def cargo_toml(crate, words, deps, left, plain, registry):
@@ -176,6 +159,24 @@ def cargo_toml(crate, words, deps, left, plain, registry):
         elif dep in registry:
             lines.append('%s = { workspace = true }' % dep)
     return '\n'.join(lines) + '\n'
+
+
+def with_values(text, workspace):
+    """A manifest with the values that it takes from the workspace, which cargo 1.63 does not look up."""
+    def line(found):
+        row = re.search(r'^%s = (.*)$' % found.group(1), workspace, re.M).group(1)
+        more = (found.group(2) or '').strip()
+        return '%s = %s' % (found.group(1), row[:-1].rstrip() + more + ' }' if more else row)
+    return re.sub(r'^([a-z0-9_-]+)(?:\.workspace = true| = \{ workspace = true(.*)\})$', line, text, flags=re.M)
+
+
+def whole(files):
+    """The files of the workspace, each manifest with its values."""
+    workspace = files['Cargo.toml']
+    found = {name: with_values(text, workspace) if name.endswith('/Cargo.toml') else text
+             for name, text in files.items()}
+    found['Cargo.toml'] = re.sub(r'\[workspace\.\w+\]\n.*?\n\n(?=\[)', '', workspace, flags=re.S)
+    return found
 
 
 def write_files(out, files):
@@ -210,7 +211,7 @@ def laid_out(files):
         write_files(folder, files)
         names = [name for name in files if name.endswith('.rs')]
         for start in range(0, len(names), 100):
-            subprocess.run(['rustfmt', '--edition', '2024', *names[start:start + 100]],
+            subprocess.run(['rustfmt', '--edition', '2021', *names[start:start + 100]],
                            cwd=folder, check=True)
         found = dict(files)
         for name in names:
@@ -256,6 +257,8 @@ def read_workspace(root):
     left = {source.crate for source in sources if source.rel in ('lib.rt', 'main.rt')}
     files = {}
     for source in sources:
+        if source.rel in ('lib.rt', 'main.rt'):
+            source.put_on_top(ALLOWED, 'what lints allow')
         text = source.write()
         check_tokens(source, source.path, text)
         files['crates/%s/src/%s.rs' % (source.crate, source.rel[:-len('.rt')])] = text
@@ -269,19 +272,25 @@ def read_workspace(root):
     return files, counts_of(everything)
 
 
+def without_paths(out):
+    """Cargo's settings by which no path of this machine stands in what is built."""
+    home = os.environ.get('CARGO_HOME') or os.path.expanduser('~/.cargo')
+    names = {os.path.abspath(out): 'addrman', REGISTRY: 'registry', os.path.join(home, 'registry', 'src'): 'registry'}
+    flags = ['--remap-path-prefix=%s=/usr/src/%s' % pair for pair in names.items()]
+    return '[build]\nrustflags = %s\n\n' % json.dumps(flags)
+
+
 def write_out(root, out, files):
     """Writes files, and where cargo finds the registry's crates."""
-    if has_packages(versions_of(os.path.join(root, 'plain'))[1]):
-        files['.cargo/config.toml'] = FROM_PACKAGES
-    elif os.path.exists(os.path.join(out, '.cargo', 'config.toml')):
-        os.remove(os.path.join(out, '.cargo', 'config.toml'))
+    found = has_packages(versions_of(os.path.join(root, 'plain'))[1])
+    files['.cargo/config.toml'] = without_paths(out) + (FROM_PACKAGES if found else '')
     write_files(out, files)
 
 
 def write_workspace(root, out):
     """Writes the workspace. Returns how often each rule was used."""
     files, counts = read_workspace(root)
-    write_out(root, out, files)
+    write_out(root, out, whole(files))
     return counts
 
 

@@ -13,9 +13,12 @@ import array
 import ctypes as c
 import os
 import threading
-from typing import Callable, NamedTuple, Optional, Sequence, TypeVar, Union
+import weakref
+from typing import Callable, Iterable, NamedTuple, NoReturn, Optional, TypeVar, Union
 
-ABI = 2
+ABI_MAJOR, ABI_MINOR = 1, 1
+MAX_RECORDS = 81_920
+"""The tables hold at most this number of records."""
 OK, CLOSED, MEMORY, ARGUMENT, FULL, SHORT_WORDS, SHORT_BUFFER, REFUSED, NONE, EXHAUSTED = range(10)
 UNROUTABLE, IPV4, IPV6, ONION, I2P, CJDNS, INTERNAL = range(7)
 ALL_NETS = 0x7F
@@ -163,8 +166,26 @@ class ShortWords(Error):
         self.need = need
 
 
-_beside = os.path.join(os.path.dirname(os.path.abspath(__file__)), "libaddrman.so.1")
-_lib = c.CDLL(os.environ.get("ADDRMAN_LIBRARY") or (_beside if os.path.exists(_beside) else "libaddrman.so.1"))
+def _library() -> c.CDLL:
+    """The shared library, if it is found and has all calls of this module."""
+    named, beside = os.environ.get("ADDRMAN_LIBRARY"), os.path.join(os.path.dirname(os.path.abspath(__file__)), "libaddrman.so.1")
+    path = named or (beside if os.path.exists(beside) else "libaddrman.so.1")
+    try:
+        lib = c.CDLL(path)
+    except OSError as error:
+        looked = f"{named}, which ADDRMAN_LIBRARY names" if named else f"{beside} and the system's folders (ADDRMAN_LIBRARY is not set)"
+        raise ImportError(f"libaddrman is not found ({error}). Looked for: {looked}. `make plain-lib` in the sources of addrman builds "
+                          "bin/lib/libaddrman.so.1, and `make install` and `ldconfig` as root install it") from error
+    if not hasattr(lib, "addrman_abi"):
+        raise ImportError(f"{path} is not libaddrman")
+    lib.addrman_abi.argtypes, lib.addrman_abi.restype = [], c.c_uint32
+    major, minor = lib.addrman_abi() >> 16, lib.addrman_abi() & 0xFFFF
+    if major != ABI_MAJOR or minor < ABI_MINOR:
+        raise ImportError(f"{path} has the ABI {major}.{minor}, and this module needs {ABI_MAJOR}.{ABI_MINOR}, or a later one of {ABI_MAJOR}")
+    return lib
+
+
+_lib = _library()
 _MAX_PAYLOAD = 49_003  # bytes of a message of 1000 entries
 _U32, _U64, _SIZE, _BOOL = c.c_uint32, c.c_uint64, c.c_size_t, c.c_bool
 _P = c.c_void_p
@@ -211,8 +232,6 @@ for _name, _arguments in _SIGNATURES.items():
     _call.argtypes, _call.restype = _arguments, None if _name.endswith(("close", "from_v1")) else _U32
 for _name in ("version", "result_text", "fault_text"):
     getattr(_lib, "addrman_" + _name).restype = c.c_char_p
-if _lib.addrman_abi() != ABI:
-    raise ImportError("libaddrman has another ABI")
 FAULTS = {kind: text for kind in range(64) if (text := _lib.addrman_fault_text(kind).decode()) != "unknown"}
 
 
@@ -262,7 +281,8 @@ def _flag(name: str, value: bool) -> bool:
 def _raw(name: str, value: BytesLike, size: Optional[int] = None) -> bytes:
     if not isinstance(value, (bytes, bytearray, memoryview)):
         raise TypeError(f"{name} is bytes, not {type(value).__name__}")
-    raw = bytes(value)
+    # Of the buffer: a subclass may say another length.
+    raw = memoryview(value).tobytes()
     if size is not None and len(raw) != size:
         raise ValueError(f"{name} has {size} bytes")
     return raw
@@ -271,14 +291,14 @@ def _raw(name: str, value: BytesLike, size: Optional[int] = None) -> bytes:
 def _text(name: str, value: str) -> bytes:
     if not isinstance(value, str):
         raise TypeError(f"{name} is a str, not {type(value).__name__}")
-    return value.encode()
+    return str.encode(value)
 
 
-def _words(words: Sequence[int], name: str = "words") -> tuple[c.Array, int]:
+def _words(words: Iterable[int], name: str = "words") -> tuple[c.Array, int]:
     if isinstance(words, (str, bytes, bytearray)):
-        raise TypeError(f"{name} is a sequence of ints, not {type(words).__name__}")
+        raise TypeError(f"{name} are ints, not {type(words).__name__}")
     try:
-        listed = array.array("Q", words)
+        listed = array.array("Q", list(words))
     except OverflowError:
         raise ValueError(f"{name} has numbers of 64 bits") from None
     return (c.c_uint64 * max(len(listed), 1)).from_buffer(listed or array.array("Q", [0])), len(listed)
@@ -376,7 +396,7 @@ def _set(addresses: Union[str, int]) -> _Set:
         if _number("an AS number", addresses) == 0:
             raise ValueError("an AS number is not 0")
         return _Set(asn=addresses)
-    base, prefix, raw = _Addr(), _U32(), addresses.encode()
+    base, prefix, raw = _Addr(), _U32(), _text("a subnet", addresses)
     _check(_lib.addrman_subnet_parse(raw, len(raw), c.byref(base), c.byref(prefix)))
     return _Set(base, prefix.value)
 
@@ -406,12 +426,14 @@ def read_message(is_v2: bool, payload: BytesLike) -> list[Entry]:
     return [_entry(e) for e in entries]
 
 
-def write_message(is_v2: bool, entries: Sequence[Entry]) -> bytes:
+def write_message(is_v2: bool, entries: Iterable[Entry]) -> bytes:
     """The payload of a message of entries, of those that it has a form for."""
-    is_v2, structs = _flag("is_v2", is_v2), (_Entry * max(len(entries), 1))()
-    for out, entry in zip(structs, entries):
+    # The caller's list may grow or shrink meanwhile.
+    is_v2, listed = _flag("is_v2", is_v2), list(entries)
+    structs = (_Entry * max(len(listed), 1))()
+    for out, entry in zip(structs, listed):
         out.services, out.peer, out.time = _number("services", entry.services, 64), _peer(entry.peer), _number("time", entry.time)
-    return bytes(_filled(c.c_uint8, _MAX_PAYLOAD, lambda p, n, l: _lib.addrman_write_message(is_v2, structs, len(entries), p, n, l)))
+    return bytes(_filled(c.c_uint8, _MAX_PAYLOAD, lambda p, n, l: _lib.addrman_write_message(is_v2, structs, len(listed), p, n, l)))
 
 
 def compile_asmap(table: str) -> bytes:
@@ -430,13 +452,56 @@ def decompile_asmap(asmap: BytesLike) -> str:
 _Self = TypeVar("_Self", bound="_Object")
 
 
+# The objects that are in use. A new one waits while this is held.
+_objects: weakref.WeakSet[_Object] = weakref.WeakSet()
+_registry = threading.RLock()
+_stopped: list[_Object] = []
+
+
+def _before_fork() -> None:
+    """Waits until no other thread is in a call: a child has only the thread that forked, and a lock that another one
+    held would never be released there. A call locks tables before bans, and these before answers."""
+    _registry.acquire()
+    while True:
+        for each in sorted(_objects, key=lambda each: each._rank):
+            if not each._lock.acquire(timeout=0.1):
+                break
+            _stopped.append(each)
+        else:
+            return
+        _go_on()
+
+
+def _go_on() -> None:
+    """Lets the calls go on."""
+    while _stopped:
+        _stopped.pop()._lock.release()
+
+
+def _after_fork() -> None:
+    """Lets the calls go on, in parent and child."""
+    _go_on()
+    _registry.release()
+
+
+os.register_at_fork(before=_before_fork, after_in_parent=_after_fork, after_in_child=_after_fork)
+
+
 class _Object:
     """An object of the library: closed by `close`, at the end of a `with` block, or with its last reference. A call
-    after that raises Error."""
+    after that raises Error. It cannot be copied or pickled. After a fork parent and child each have it."""
     _prefix = ""
+    _rank = 3
 
-    def __init__(self) -> None:
+    def __new__(cls: type[_Self], *_: object, **__: object) -> _Self:
+        self = super().__new__(cls)
         self._h, self._lock = _Handle(), threading.RLock()
+        with _registry:
+            _objects.add(self)
+        return self
+
+    def __reduce_ex__(self, _: object) -> NoReturn:
+        raise TypeError(f"cannot copy or pickle {type(self).__name__}: it owns memory of the library")
 
     def _call(self, name: str, *arguments: object) -> int:
         with self._lock:
@@ -468,10 +533,10 @@ class _Object:
 class AddrMan(_Object):
     """The tables, and the outbound peers that are open. Peers and addresses are texts, as `9.9.9.9:8333`. Times are
     seconds since 1970, and words random 64-bit numbers (`secrets.randbits(64)`)."""
+    _rank = 0
 
     def __init__(self, key: BytesLike, seed: tuple[int, int], asmap: BytesLike = b"", core: bool = False):
         """Empty tables under a secret key of 32 bytes. With `core` the checksum of the asmap is Bitcoin Core's."""
-        super().__init__()
         raw = _raw("asmap", asmap)
         _check(self._call("open_core" if _flag("core", core) else "open", _raw("key", key, 32), _seed(seed), raw, len(raw)), _Fault(21, 0))
 
@@ -480,7 +545,6 @@ class AddrMan(_Object):
              core: bool = False) -> AddrMan:
         """The tables that the bytes of a peers.dat have."""
         self, fault = cls.__new__(cls), _Fault()
-        _Object.__init__(self)
         bytes_of, raw = _raw("file", file), _raw("asmap", asmap)
         name = "open_file_core" if _flag("core", core) else "open_file"
         _check(self._call(name, bytes_of, len(bytes_of), _number("chain", chain), _seed(seed), raw, len(raw),
@@ -491,7 +555,7 @@ class AddrMan(_Object):
         """The bytes of the peers.dat that keeps the tables."""
         return bytes(self._filled(c.c_uint8, 0, "write_file", _number("chain", chain)))
 
-    def take_message(self, is_v2: bool, payload: BytesLike, source: str, words: Sequence[int], now: int) -> tuple[int, int]:
+    def take_message(self, is_v2: bool, payload: BytesLike, source: str, words: Iterable[int], now: int) -> tuple[int, int]:
         """Takes a message that `source` sent. Returns how many entries got a slot, and how many there are."""
         added, fault, raw = _Added(), _Fault(), _raw("payload", payload)
         code = self._call("take_message", _flag("is_v2", is_v2), raw, len(raw), c.byref(_addr(source)), *_words(words),
@@ -499,7 +563,7 @@ class AddrMan(_Object):
         _check(code, fault, added.total)
         return added.accepted, added.total
 
-    def take_first(self, is_v2: bool, payload: BytesLike, source: str, max: int, words: Sequence[int],
+    def take_first(self, is_v2: bool, payload: BytesLike, source: str, max: int, words: Iterable[int],
                    now: int) -> tuple[int, int]:
         """Takes at most so many entries of a message, the first ones. Returns how many got a slot, and how many there are
         of them."""
@@ -510,7 +574,7 @@ class AddrMan(_Object):
         return added.accepted, added.total
 
     def take_chosen(self, is_v2: bool, payload: BytesLike, source: str, max: int, services: int, nets: int,
-                    words: Sequence[int], now: int) -> tuple[int, int]:
+                    words: Iterable[int], now: int) -> tuple[int, int]:
         """Takes those of at most so many entries after a shuffle that have one of the services, and whose network is in a
         set. Returns how many got a slot, and how many were let through."""
         added, fault, raw = _Added(), _Fault(), _raw("payload", payload)
@@ -521,15 +585,15 @@ class AddrMan(_Object):
         return added.accepted, added.total
 
     def take_unbanned(self, bans: Bans, is_v2: bool, payload: BytesLike, source: str, max: int, services: int, nets: int,
-                      words: Sequence[int], now: int) -> tuple[int, int]:
+                      words: Iterable[int], now: int) -> tuple[int, int]:
         """Does the same, and skips those whose addresses are banned, too."""
         if not isinstance(bans, Bans):
             raise TypeError(f"bans is of Bans, not of {type(bans).__name__}")
         added, fault, raw = _Added(), _Fault(), _raw("payload", payload)
+        arguments = (_flag("is_v2", is_v2), raw, len(raw), c.byref(_addr(source)), _number("max", max),
+                     _number("services", services, 64), _number("nets", nets), *_words(words), _number("now", now))
         with self._lock, bans._lock:
-            code = self._call("take_unbanned", c.byref(bans._h), _flag("is_v2", is_v2), raw, len(raw), c.byref(_addr(source)),
-                              _number("max", max), _number("services", services, 64), _number("nets", nets), *_words(words),
-                              _number("now", now), c.byref(added), c.byref(fault))
+            code = self._call("take_unbanned", c.byref(bans._h), *arguments, c.byref(added), c.byref(fault))
         _check(code, fault, added.total)
         return added.accepted, added.total
 
@@ -563,13 +627,13 @@ class AddrMan(_Object):
         _check(code)
         return _peer_text(out.peer), out.last_try
 
-    def select(self, new_only: bool, nets: int, words: Sequence[int], now: int) -> Optional[tuple[str, int]]:
+    def select(self, new_only: bool, nets: int, words: Iterable[int], now: int) -> Optional[tuple[str, int]]:
         """Picks a peer to connect to, and when it was last tried. None: there is no candidate. Error with the code
-        EXHAUSTED: call with more words."""
+        EXHAUSTED: call again with the same words and more after them."""
         return self._picked("select", _flag("new_only", new_only), _number("nets", nets), *_words(words),
                             _number("now", now))
 
-    def select_record(self, new_only: bool, nets: int, words: Sequence[int], now: int) -> Optional[Record]:
+    def select_record(self, new_only: bool, nets: int, words: Iterable[int], now: int) -> Optional[Record]:
         """The same, with the record of the peer."""
         out = _Record()
         code = self._call("select_record", _flag("new_only", new_only), _number("nets", nets), *_words(words),
@@ -579,28 +643,28 @@ class AddrMan(_Object):
         _check(code)
         return _record(out)
 
-    def sample(self, max: int, percent: int, classes: int, words: Sequence[int], now: int) -> list[str]:
+    def _each(self, kind, name: str, *arguments: object) -> list:
+        """What a call writes that has at most one of each record."""
+        with self._lock:
+            size = self.size()
+            return self._filled(kind, size.new + size.tried, name, *arguments)
+
+    def sample(self, max: int, percent: int, classes: int, words: Iterable[int], now: int) -> list[str]:
         """Peers to announce; a random word for each record."""
-        with self._lock:
-            size = self.size()
-            return [_peer_text(p) for p in self._filled(_Peer, size.new + size.tried, "sample", _number("max", max),
-                                                        _number("percent", percent), _number("classes", classes),
-                                                        *_words(words), _number("now", now))]
+        arguments = (_number("max", max), _number("percent", percent), _number("classes", classes), *_words(words),
+                     _number("now", now))
+        return [_peer_text(p) for p in self._each(_Peer, "sample", *arguments)]
 
-    def sample_entries(self, max: int, percent: int, classes: int, words: Sequence[int], now: int) -> list[Entry]:
+    def sample_entries(self, max: int, percent: int, classes: int, words: Iterable[int], now: int) -> list[Entry]:
         """The same, with the times and services of the records."""
-        with self._lock:
-            size = self.size()
-            return [_entry(e) for e in self._filled(_Entry, size.new + size.tried, "sample_entries", _number("max", max),
-                                                    _number("percent", percent), _number("classes", classes), *_words(words),
-                                                    _number("now", now))]
+        arguments = (_number("max", max), _number("percent", percent), _number("classes", classes), *_words(words),
+                     _number("now", now))
+        return [_entry(e) for e in self._each(_Entry, "sample_entries", *arguments)]
 
-    def sample_unfiltered(self, max: int, percent: int, classes: int, words: Sequence[int]) -> list[Record]:
+    def sample_unfiltered(self, max: int, percent: int, classes: int, words: Iterable[int]) -> list[Record]:
         """Records of these classes, terrible ones among them; a random word for each record of the object."""
-        with self._lock:
-            size = self.size()
-            return [_record(r) for r in self._filled(_Record, size.new + size.tried, "sample_unfiltered", _number("max", max),
-                                                     _number("percent", percent), _number("classes", classes), *_words(words))]
+        arguments = (_number("max", max), _number("percent", percent), _number("classes", classes), *_words(words))
+        return [_record(r) for r in self._each(_Record, "sample_unfiltered", *arguments)]
 
     def resolve_collisions(self, now: int) -> Resolved:
         out = _Three()
@@ -632,15 +696,13 @@ class AddrMan(_Object):
 
     def records(self) -> list[Record]:
         """All records in the order of their numbers."""
-        with self._lock:
-            size = self.size()
-            return [_record(r) for r in self._filled(_Record, size.new + size.tried, "records")]
+        return [_record(r) for r in self._each(_Record, "records")]
 
-    def risk(self, sets: Sequence[Union[str, int]], now: int) -> Shares:
+    def risk(self, sets: Iterable[Union[str, int]], now: int) -> Shares:
         """Which part of the picks falls to the peers of some sets of addresses, at most: the text of a subnet, or the
         number of an autonomous system."""
-        listed, out = (_Set * max(len(sets), 1))(*map(_set, sets)), _Three()
-        _check(self._call("risk", listed, len(sets), _number("now", now), c.byref(out)))
+        listed, out = [_set(each) for each in sets], _Three()
+        _check(self._call("risk", (_Set * max(len(listed), 1))(*listed), len(listed), _number("now", now), c.byref(out)))
         return Shares(out.first, out.second, out.third)
 
     def asn(self, addr: str) -> int:
@@ -682,9 +744,9 @@ class AddrMan(_Object):
 class Bans(_Object):
     """A list of banned subnets, from the bytes of a banlist.json; no bytes are an empty list."""
     _prefix = "bans_"
+    _rank = 1
 
     def __init__(self, json: BytesLike = b""):
-        super().__init__()
         fault, raw = _Fault(), _raw("json", json)
         _check(self._call("bans_open", raw, len(raw), c.byref(fault)), fault)
 
@@ -717,7 +779,6 @@ class Limiter(_Object):
     _prefix = "limiter_"
 
     def __init__(self) -> None:
-        super().__init__()
         _check(self._call("limiter_open"))
 
     def add(self, number: int, addr: str, unlimited: bool, now: int) -> bool:
@@ -755,9 +816,9 @@ class Limiter(_Object):
 class Answers(_Object):
     """The answers to getaddr that a node keeps: one for each network class of requesters and local socket."""
     _prefix = "answers_"
+    _rank = 2
 
     def __init__(self) -> None:
-        super().__init__()
         _check(self._call("answers_open"))
 
     def forget(self) -> None:
@@ -765,17 +826,17 @@ class Answers(_Object):
         _check(self._call("answers_forget"))
 
     def answer(self, tables: AddrMan, bans: Bans, requester: int, socket: int, is_v2: bool, own_times: bool, now: int,
-               words: Sequence[int]) -> Optional[bytes]:
+               words: Iterable[int]) -> Optional[bytes]:
         """The payload of an answer. A new one needs a random word, and one for each record. None: 64 others have
         answers."""
         for name, value, kind in (("tables", tables, AddrMan), ("bans", bans, Bans)):
             if not isinstance(value, kind):
                 raise TypeError(f"{name} is of {kind.__name__}, not of {type(value).__name__}")
         length, out = _SIZE(), (c.c_uint8 * _MAX_PAYLOAD)()
+        arguments = (_number("requester", requester, 8), _number("socket", socket), _flag("is_v2", is_v2),
+                     _flag("own_times", own_times), _number("now", now), *_words(words))
         with tables._lock, bans._lock:
-            code = self._call("answer", c.byref(tables._h), c.byref(bans._h), _number("requester", requester, 8),
-                              _number("socket", socket), _flag("is_v2", is_v2), _flag("own_times", own_times),
-                              _number("now", now), *_words(words), out, len(out), c.byref(length))
+            code = self._call("answer", c.byref(tables._h), c.byref(bans._h), *arguments, out, len(out), c.byref(length))
         if code == NONE:
             return None
         _check(code, need=length.value)
@@ -788,14 +849,13 @@ class Save(_Object):
     _prefix = "save_"
 
     def __init__(self, tables: AddrMan, chain: int, max: int) -> None:
-        super().__init__()
         if not isinstance(tables, AddrMan):
             raise TypeError(f"tables is an AddrMan, not {type(tables).__name__}")
         with tables._lock:
             _check(self._call("save_begin", c.byref(tables._h), _number("chain", chain), _number("max", max)))
 
     def next(self) -> Optional[tuple[str, bytes]]:
-        """What to do next, one of REQUESTS, and the bytes to append. None: the file is saved."""
+        """What to do next, one of REQUESTS, and the bytes to append. None: the file is saved, and the save closed."""
         request, length, room = _U32(), _SIZE(), 1
         with self._lock:
             while True:
@@ -810,5 +870,5 @@ class Save(_Object):
         return REQUESTS[request.value], bytes(piece[:length.value])
 
     def done(self, succeeded: bool = True) -> None:
-        """It has succeeded, or has failed, which ends the save."""
+        """It has succeeded, or has failed, which closes the save."""
         _check(self._call("save_done", _flag("succeeded", succeeded)))

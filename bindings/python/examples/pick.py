@@ -13,6 +13,18 @@ def words(count: int) -> list[int]:
     return [secrets.randbits(64) for _ in range(count)]
 
 
+def pick(known: addrman.AddrMan, now: int):
+    """Picks a peer. Where the random words do not suffice, they are kept, and more follow them."""
+    drawn: list[int] = []
+    while True:
+        drawn += words(300)
+        try:
+            return known.select(False, addrman.ALL_NETS, drawn, now)
+        except addrman.Error as fault:
+            if fault.code != addrman.EXHAUSTED or len(drawn) > addrman.MAX_RECORDS:
+                raise
+
+
 def main() -> int:
     now = int(time.time())
     with open(sys.argv[1], "rb") as file:
@@ -26,12 +38,7 @@ def main() -> int:
         payload = b"\1" + now.to_bytes(4, "little") + bytes([9, 1, 4, 8, 8, 8, 8, 0x20, 0x8D])
         print("added %d of %d" % known.take_message(True, payload, "1.2.3.4", words(1), now))
         for attempt in range(1, 101):
-            try:
-                picked = known.select(False, addrman.ALL_NETS, words(3000), now)
-            except addrman.Error as fault:
-                if fault.code != addrman.EXHAUSTED:
-                    raise
-                continue
+            picked = pick(known, now)
             if picked and known.judge(*picked, now, attempt) == "take":
                 print("connect to", picked[0])
                 return 0

@@ -44,6 +44,7 @@ answer key made records word entries = record {
 abbrev pub told_time : ℕ → ℕ → ℕ
 told_time made word = made - (MIN_AGE + word / (EXTRA_SECONDS + 1) % (EXTRA_AGE + 1))
 
+-- The answer is kept for this key.
 abbrev pub is_of : ℕ → Answer → Bool
 is_of key a = a.key == key
 

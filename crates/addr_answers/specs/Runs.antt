@@ -16,6 +16,7 @@ pub record Ask : Type 0 where
 abbrev pub is_made : List Answer → Ask → Bool
 is_made kept ask = is_none (answer_at ask.key ask.now kept) && has_room ask.key kept
 
+-- The answer that is made for a request.
 abbrev pub made_answer : Ask → Answer
 made_answer ask = answer ask.key ask.now ask.records ask.word ask.fresh
 

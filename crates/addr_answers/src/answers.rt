@@ -1,3 +1,5 @@
+//! `Answers`: `find`, `put` and `forget` by key, with `MAX_KEYS` and `MAX_TOLD`.
+
 ghost use Rattle.std.specs.Prelude.{◌≡◌, ◌≤◌, option_map, length};
 ghost use Rattle.std.specs.Vec.{vec_len, vec_capacity};
 ghost use Rattle.addr_answers.specs.Answers.{answer_at, without};

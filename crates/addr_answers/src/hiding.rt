@@ -1,3 +1,5 @@
+//! `told_time`: one time for all entries, 8 to 12 days back.
+
 ghost use Rattle.std.specs.Prelude.{◌≡◌};
 ghost use Rattle.addr_answers.specs.Answers.{told_time};
 

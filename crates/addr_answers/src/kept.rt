@@ -1,3 +1,5 @@
+//! `Kept`, an answer with its key and end, and `key_of`; with `KEPT_SECONDS` and `FEW_RECORDS`.
+
 ghost use Rattle.std.specs.Prelude.{◌≡◌, ◌<◌, ◌^◌, not, ◌==◌, ◌&&◌};
 ghost use Rattle.addr_answers.specs.Answers.{key_of, answer, is_of, is_current, least_of, more_of};
 

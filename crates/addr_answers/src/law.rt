@@ -1,3 +1,5 @@
+//! Laws: answers stay, keys are independent, and samples are rare.
+
 ghost use Rattle.std.specs.Prelude.{◌≡◌, ◌≢◌, ◌⊎◌, ℕ, List, [], ◌∷◌, ◌++◌, true, length, ◌*◌, ◌+◌, ◌-◌, ◌≤◌};
 ghost use Rattle.std.specs.List.{AllByRecursion};
 ghost use Rattle.net_addr.specs.declared.net.Net.{Net};

@@ -15,6 +15,7 @@ use Rattle.addr_codecs.specs.declared.fault.MsgFault.{MsgFault}
 use Rattle.addr_codecs.specs.declared.fault.MsgFault.TheVariants.{TooMany, Memory}
 use Rattle.addr_codecs.specs.declared.message.TheConstants.{MAX_ENTRIES}
 
+-- Reads an entry of `addr`: time, services, sixteen bytes of address, and port.
 unfoldable pub addr_entry_at : List ℕ → Result (Option Entry × List ℕ) MsgFault
 addr_entry_at bytes = do
   time ← fault_as of_wire (le_at w32 bytes)
@@ -23,6 +24,7 @@ addr_entry_at bytes = do
   port ← fault_as of_wire (be_at w16 old.1)
   Ok (Some (entry time.0 services.0 port.0 (from_v1 old.0)), port.1)
 
+-- Reads an entry of `addrv2` (BIP 155): time, services, address, and port.
 unfoldable pub addrv2_entry_at : List ℕ → Result (Option Entry × List ℕ) MsgFault
 addrv2_entry_at bytes = do
   time ← fault_as of_wire (le_at w32 bytes)
@@ -31,6 +33,7 @@ addrv2_entry_at bytes = do
   port ← fault_as of_wire (be_at w16 addr.1)
   Ok (option_map (entry time.0 services.0 port.0) addr.0, port.1)
 
+-- Reads a message: the number of its entries, and then each by a reading of one entry.
 unfoldable pub message_at : (List ℕ → Result (Option Entry × List ℕ) MsgFault) → List ℕ
     → Result (List (Option Entry) × List ℕ) MsgFault
 message_at r bytes = do
@@ -43,6 +46,7 @@ abbrev pub GivesUnlessMemory : {X Y : Type 0} → (X → Y) → Result X MsgFaul
 GivesUnlessMemory view (Ok x) read = read ≡ Ok (view x)
 GivesUnlessMemory view (Err e) read = e ≢ Memory → read ≡ Err e
 
+-- Reads an entry of a form.
 abbrev pub entry_at : Form → List ℕ → Result (Option Entry × List ℕ) MsgFault
 entry_at Addr bytes = addr_entry_at bytes
 entry_at Addrv2 bytes = addrv2_entry_at bytes

@@ -1,5 +1,5 @@
 -- The layout of the messages `addr` and `addrv2` (BIP 155), field by field, and the fault that each
--- field may show.
+-- field may show. An entry is `CAddress` in protocol.h of Bitcoin Core.
 use Rattle.std.specs.Prelude.{ℕ, List, Option, Some, option_map, nat_le}
 use Rattle.std.specs.Int.{w16, w32, w64}
 use Rattle.net_addr.specs.Address.{Address}
@@ -19,9 +19,11 @@ use Rattle.addr_codecs.specs.declared.message.TheConstants.{MAX_ENTRIES}
 use Rattle.addr_codecs.specs.declared.address_fault.AddressFault.{AddressFault}
 use Rattle.addr_codecs.specs.declared.address_fault.AddressFault.TheVariants.{BadLength, TooLong}
 
+-- A format of wire_num as a field of a message: its faults are those of a message.
 abbrev pub field : {A : Type 0} → Format WireFault A → Format MsgFault A
 field p = map_fault of_wire p
 
+-- The entry with this time, these services, and the peer of this port and address.
 abbrev pub entry : ℕ → ℕ → ℕ → Address → Entry
 entry time services port addr =
     record { time = time; services = services; peer = record { addr = addr; port = port } }
@@ -70,16 +72,19 @@ message p = do
   count ← check (nat_le n MAX_ENTRIES) TooMany n
   times 0 count (λ _. p)
 
+-- The bytes are the payload of an `addr` message with these entries.
 abbrev pub IsAddrMessage : List ℕ → List (Option Entry) → Type 0
 IsAddrMessage bytes es = (message addr_entry).spells bytes es
 
+-- The bytes are the payload of an `addrv2` message (BIP 155) with these entries.
 abbrev pub IsAddrv2Message : List ℕ → List (Option Entry) → Type 0
 IsAddrv2Message bytes es = (message addrv2_entry).spells bytes es
 
--- the first fault of bytes that are to be a message
+-- The first fault of bytes that should be an `addr` message.
 abbrev pub HasAddrFault : List ℕ → MsgFault → Type 0
 HasAddrFault bytes f = HasFault (message addr_entry) Trailing bytes f
 
+-- The first fault of bytes that should be an `addrv2` message.
 abbrev pub HasAddrv2Fault : List ℕ → MsgFault → Type 0
 HasAddrv2Fault bytes f = HasFault (message addrv2_entry) Trailing bytes f
 

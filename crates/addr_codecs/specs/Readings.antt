@@ -8,6 +8,8 @@ use Rattle.addr_codecs.specs.Network.{network_of, is_length, address_of}
 use Rattle.addr_codecs.specs.declared.address_fault.AddressFault.{AddressFault}
 use Rattle.addr_codecs.specs.declared.address_fault.AddressFault.TheVariants.{BadLength, TooLong}
 
+-- Reads the length of an address: at most 512, and exactly that of its network if the network is
+-- known (BIP 155).
 unfoldable pub length_at : Option Net → List ℕ → Result (ℕ × List ℕ) AddressFault
 length_at network bytes = do
   len ← fault_as in_address (compact_at bytes)
@@ -15,6 +17,8 @@ length_at network bytes = do
       then (if is_length network len.0 then Ok (len.0, len.1) else Err BadLength)
       else Err TooLong
 
+-- Reads an address: the number of its network, its length, and its bytes (BIP 155). The address of
+-- an unknown network is passed over.
 unfoldable pub address_at : List ℕ → Result (Option Address × List ℕ) AddressFault
 address_at bytes = do
   id ← fault_as in_address (byte_at bytes)

@@ -1,3 +1,6 @@
+//! Reads an address of an `addrv2` message: the BIP 155 number of its network, its length (at most
+//! `MAX_BYTES`, 512) and its bytes.
+
 ghost use Rattle.std.specs.Prelude.{◌≡◌, ◌≢◌, length, IsTrue, IfSome, Some};
 ghost use Rattle.wire_num.specs.Readings.{Gives};
 ghost use Rattle.net_addr.specs.declared.net.Net.TheVariants.{Unroutable, Ipv6};

@@ -1,3 +1,5 @@
+//! `AddressFault`: why an address of an `addrv2` message cannot be read.
+
 ghost use Rattle.std.specs.Prelude.{◌≡◌};
 ghost use Rattle.addr_codecs.specs.Faults.{in_address};
 

@@ -1,3 +1,5 @@
+//! Reads one entry in either form: time, services, address and port.
+
 ghost use Rattle.wire_num.specs.Readings.{Gives};
 ghost use Rattle.addr_codecs.specs.Inside.{addr_entry_at, addrv2_entry_at};
 

@@ -1,3 +1,6 @@
+//! `MsgFault`: why a message cannot be read. It is too short, has too many entries or bytes after
+//! them, or has a faulty address.
+
 ghost use Rattle.std.specs.Prelude.{◌≡◌};
 ghost use Rattle.addr_codecs.specs.Faults.{of_wire, of_address};
 ghost use Rattle.addr_codecs.specs.declared.fault.MsgFault.TheVariants.{Memory};

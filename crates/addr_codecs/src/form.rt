@@ -1,11 +1,13 @@
+//! `Form`, which is `addr` or `addrv2`, and how each reads and writes an entry.
+
 ghost use Rattle.std.specs.Prelude.{◌≡◌, ◌++◌, OnOk};
 ghost use Rattle.wire_num.specs.Readings.{Gives};
 ghost use Rattle.addr_codecs.specs.Entries.{IsEntry};
 ghost use Rattle.addr_codecs.specs.Inside.{CanWrite, entry_at, text_in};
 
+use crate::Memory;
 use crate::entry::{take_addr_entry, take_addrv2_entry};
 use crate::fault::MsgFault;
-use crate::memory::Memory;
 use crate::writing::{put_addr_entry, put_addrv2_entry};
 use net_addr::Entry;
 

@@ -1,3 +1,5 @@
+//! Laws: each list of bytes is one message or has one fault; and the limit as a number.
+
 ghost use Rattle.std.specs.Prelude.{◌≡◌, ℕ, ◌<◌, List, All};
 ghost use Rattle.wire_num.specs.Format.{HasOneMeaning};
 ghost use Rattle.addr_codecs.specs.Layout.{message, addr_entry, addrv2_entry};

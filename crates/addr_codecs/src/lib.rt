@@ -19,7 +19,6 @@ mod entry;
 mod fault;
 mod form;
 mod law;
-mod memory;
 mod message;
 mod writing;
 

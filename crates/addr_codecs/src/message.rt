@@ -1,3 +1,6 @@
+//! `read_addr` and `read_addrv2`: a count, its entries and nothing after them. Also `Entries`, and
+//! `MAX_ENTRIES` (1000).
+
 ghost use Rattle.std.specs.Prelude.{◌≡◌, ◌≢◌, ◌≤◌, List, Option, length, vec_len, IfOk, IfErr, Ok, Err};
 ghost use Rattle.net_addr.specs.declared.peer.Entry.{Entry};
 ghost use Rattle.wire_num.specs.Readings.{times_at, all_of};

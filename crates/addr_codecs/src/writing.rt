@@ -1,3 +1,5 @@
+//! Writes messages, entries and addresses as bytes: `write_addr`, `write_addrv2` and `put_address`.
+
 ghost use Rattle.std.specs.Prelude.{◌≡◌, ◌≢◌, ◌⊎◌, ◌≤◌, ◌++◌, [], length, map, All, IfOk, OnOk, OnErr, Some, unwrap_or, take, vec_len};
 ghost use Rattle.net_addr.specs.Address.{IsAddress};
 ghost use Rattle.net_addr.specs.OldForm.{v1_bytes};
@@ -8,8 +10,8 @@ ghost use Rattle.addr_codecs.specs.Layout.{IsAddrMessage, IsAddrv2Message};
 ghost use Rattle.addr_codecs.specs.Texts.{addr_entry_text, addrv2_entry_text, address_text, prefix_of, id_of, message_text};
 ghost use Rattle.addr_codecs.specs.declared.message.TheConstants.{MAX_ENTRIES};
 
+use crate::Memory;
 use crate::form::Form;
-use crate::memory::Memory;
 use host_io::Bytes;
 use net_addr::{Entry, INTERNAL_PREFIX, MAPPED_PREFIX, Net, NetAddr};
 use std::alloc::Global;

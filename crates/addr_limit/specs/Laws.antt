@@ -23,6 +23,7 @@ use Rattle.addr_limit.specs.declared.command.LimitCommand.TheVariants.{Open, Clo
 use Rattle.addr_limit.specs.declared.command.LimitWord.{LimitWord}
 use Rattle.addr_limit.specs.declared.command.LimitWord.TheVariants as v
 
+-- A truth value as a type.
 abbrev Holds : Bool → Type 0
 Holds true = Unit {0}
 Holds false = ⊥
@@ -33,22 +34,27 @@ apart e = subst (λ (word : List ℕ). Holds (get_or word 0 0 == 117)) e tt
 
 -- ---- values
 
+-- The address that a value is, or another one.
 abbrev addr_in : Address → Value → Address
 addr_in a (TheAddr b) = b
 addr_in a other = a
 
+-- The bytes that a value is.
 abbrev bytes_in : Value → List ℕ
 bytes_in (TheBytes bytes) = bytes
 bytes_in other = []
 
+-- The random words that a value is.
 abbrev words_in : Value → List ℕ
 words_in (TheWords words) = words
 words_in other = []
 
+-- The choice that a value is.
 abbrev choice_in : Value → Bool
 choice_in (TheChoice b) = b
 choice_in other = false
 
+-- A text is at most one value of each kind of field that a keyword has.
 definite : (verb : LimitWord) → all_definite (limit_kinds verb) ≡ true
 definite v.Now = refl
 definite v.Open = refl
@@ -60,6 +66,7 @@ definite v.Stat = refl
 
 -- ---- messages
 
+-- Two readings of a payload are equal if its form has one meaning.
 one_by : (form : Form) (payload : List ℕ)
     → ((x y : List (Option Entry)) → IsMessage form payload x → IsMessage form payload y → x ≡ y)
     → ((f g : MsgFault) → HasMessageFault form payload f → HasMessageFault form payload g → f ≡ g)
@@ -72,6 +79,7 @@ one_by form payload value fault both (Ok x) (Err g) h k = absurd (both x g h.0 k
 one_by form payload value fault both (Err f) (Ok y) h k = absurd (both y f k.0 h)
 one_by form payload value fault both (Err f) (Err g) h k = ap Err (fault f g h k)
 
+-- Two readings of a payload are equal.
 one_reading : (form : Form) (payload : List ℕ) → ((i : ℕ) → get_or payload i 0 < 256)
     → (a b : Result (List (Option Entry)) MsgFault)
     → IsRead form payload a → IsRead form payload b → a ≡ b
@@ -84,6 +92,7 @@ one_reading Addrv2 payload bytes =
     (Reads-message addrv2_entry addrv2_entry_at Reads-addrv2_entry) bytes in
     one_by Addrv2 payload meaning.one_value meaning.one_fault meaning.never_both
 
+-- A line with a message says one event.
 one_message : (form : Form) (values : List Value) (a b : Event)
     → SaysMessage form values a → SaysMessage form values b → a ≡ b
 one_message form values a b (m, p, ps, x, h, bytes, reads, is)
@@ -98,11 +107,13 @@ one_message form values a b (m, p, ps, x, h, bytes, reads, is)
 
 -- ---- events
 
+-- A line with a request says one event.
 one_request : (request : LimitCommand) (values : List Value) (a b : Event)
     → SaysRequest request values a → SaysRequest request values b → a ≡ b
 one_request request values a b (m, h, is) (n, k, is') =
     is ∙ ap (λ vs. Of (number_in (at vs 0)) request) (sym h ∙ k) ∙ sym is'
 
+-- The values after a keyword say one event.
 one_of : (verb : LimitWord) (values : List Value) (a b : Event)
     → SaysOf verb values a → SaysOf verb values b → a ≡ b
 one_of v.Now values a b (t, h, is) (u, k, is') =
@@ -118,6 +129,7 @@ one_of v.From values a b h k = one_message Addr values a b h k
 one_of v.From2 values a b h k = one_message Addrv2 values a b h k
 one_of v.Stat values a b h k = one_request Stat values a b h k
 
+-- The words of a line say one event.
 pub one_event : (word : List ℕ) (texts : List (List ℕ)) (a b : Event)
     → SaysAfter word texts a → SaysAfter word texts b → a ≡ b
 one_event word texts a b = by (verb_at word)
@@ -131,6 +143,7 @@ one_event word texts a b = by (verb_at word)
 
 -- ---- faults
 
+-- The words of a line have one fault.
 pub one_fault : (word : List ℕ) (texts : List (List ℕ)) (f g : LineFault)
     → FaultAfter word texts f → FaultAfter word texts g → f ≡ g
 one_fault word texts f g = by (verb_at word)
@@ -139,6 +152,7 @@ one_fault word texts f g = by (verb_at word)
     by None h k = absurd h
     by (Some verb) h k = one_fault_after (Some (limit_kinds verb)) texts f g h k
 
+-- Words that say an event have no fault.
 pub no_fault : (word : List ℕ) (texts : List (List ℕ)) (a : Event) (f : LineFault)
     → SaysAfter word texts a → FaultAfter word texts f → ⊥
 no_fault word texts a f = by (verb_at word)

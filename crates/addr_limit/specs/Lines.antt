@@ -29,6 +29,7 @@ limit_word v.From = codes "from"
 limit_word v.From2 = codes "from2"
 limit_word v.Stat = codes "stat"
 
+-- The fields of a line with a message: the number of its connection, its payload, and random words.
 abbrev pub message_kinds : List Kind
 message_kinds = u32_field ∷ Hex ∷ Random ∷ []
 
@@ -95,6 +96,7 @@ abbrev pub FaultBy : Option LimitWord → List (List ℕ) → LineFault → Type
 FaultBy None texts f = ⊥
 FaultBy (Some verb) texts f = AreAtFault (limit_kinds verb) texts f
 
+-- What is wrong in the texts after a first word.
 abbrev pub FaultAfter : List ℕ → List (List ℕ) → LineFault → Type 0
 FaultAfter word texts f = FaultBy (verb_at word) texts f
 
@@ -119,9 +121,11 @@ is_about_by number (Some v.Now) texts = true
 is_about_by number (Some verb) [] = false
 is_about_by number (Some verb) (text ∷ texts) = bytes_eq text (decimal number)
 
+-- The fields of a line are about a connection: they are a `now` line, or name its number.
 abbrev pub are_about : ℕ → List (List ℕ) → Bool
 are_about number [] = false
 are_about number (word ∷ texts) = is_about_by number (verb_at word) texts
 
+-- The line is about a connection.
 abbrev pub is_about : ℕ → List ℕ → Bool
 is_about number line = are_about number (fields_of line)

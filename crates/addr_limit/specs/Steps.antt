@@ -25,6 +25,7 @@ pub record Outcome : Type 0 where
   pub text : List ℕ
   pub conn : Option Conn
 
+-- This output line, and this connection afterwards.
 abbrev pub with_output : List ℕ → Option Conn → Outcome
 with_output text conn = record { text = text; conn = conn }
 
@@ -32,6 +33,7 @@ with_output text conn = record { text = text; conn = conn }
 abbrev pub comment : List ℕ → ℕ → List ℕ → List ℕ
 comment word number said = codes "# " ++ word ++ codes " " ++ decimal number ++ said
 
+-- The network is that of internal addresses, which no `addrv2` message carries.
 abbrev pub is_internal : Net → Bool
 is_internal Internal = true
 is_internal other = false
@@ -62,6 +64,8 @@ limit_entries c pairs =
     with_output (message_line c (filter_map for_output (intake c pairs))) (Some (after_entries c
     pairs))
 
+-- A message to a connection: refused if its payload has a fault or there are fewer random words
+-- than entries, and else its entries are limited.
 abbrev pub limit_message : ℕ → Conn → Result (List (Option Entry)) MsgFault → List ℕ → Outcome
 limit_message now c (Err fault) words =
     with_output (comment (codes "from") c.number (codes " refused " ++ fault_text fault)) (Some c)
@@ -73,6 +77,7 @@ limit_message now c (Ok entries) words =
     (Some c)
     else limit_entries (refill now c) (zip entries words)
 
+-- What `stat` says of a connection: the entries processed and limited, and its tokens in tenths.
 abbrev pub stat_text : Conn → List ℕ
 stat_text c =
     codes " processed " ++ decimal c.processed ++ codes " limited " ++ decimal c.limited
@@ -105,6 +110,7 @@ abbrev pub serve : ℕ → ℕ → Option Conn → LimitCommand → Outcome
 serve now number None request = serve_none now number request
 serve now number (Some c) request = serve_conn now c request
 
+-- The answer to a request about a number, in a state.
 abbrev pub serve_in : LimitState → ℕ → LimitCommand → Outcome
 serve_in st number request = serve st.clock number (find_conn number st.conns) request
 

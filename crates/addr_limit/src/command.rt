@@ -1,3 +1,5 @@
+//! `LimitWord`, `KEYWORDS`, `Event` and `LimitCommand`: what a line says.
+
 ghost use Rattle.addr_limit.specs.Lines.{limit_word};
 
 use addr_codecs::{Entries, MsgFault};

@@ -1,3 +1,5 @@
+//! Laws: connections are independent, calls are events, and tokens are bounded.
+
 ghost use Rattle.std.specs.Prelude.{◌≡◌, ℕ, ◌<◌, ◌≤◌, ◌^◌, Bool, List, length, Option, Ok};
 ghost use Rattle.net_addr.specs.Address.{Address};
 ghost use Rattle.net_addr.specs.declared.peer.Entry.{Entry};

@@ -1,3 +1,5 @@
+//! `LimitLog`, the clock and the connections: carries out a line and sets the clock.
+
 ghost use Rattle.std.specs.Prelude.{◌≡◌, ◌++◌, [], ◌∷◌, OnOk, OnErr};
 
 use crate::read::LimitLines;

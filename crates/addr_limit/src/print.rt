@@ -1,3 +1,6 @@
+//! Prints output lines: `stat`, `getaddr`, comments, and the `addrv2` line of the entries passed
+//! on.
+
 ghost use Rattle.std.specs.Prelude.{◌≡◌, ◌++◌, [], ◌∷◌, codes, map, ℕ, List, if◌then◌else◌, IfOk, OnOk};
 ghost use Rattle.net_addr.specs.declared.peer.Entry.{Entry};
 ghost use Rattle.log_lines.specs.Replies.{reply_line, numbers_text};

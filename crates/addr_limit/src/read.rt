@@ -1,3 +1,5 @@
+//! `LimitLines` reads the fields of a line, and the payloads of messages.
+
 ghost use Rattle.std.specs.Prelude.{◌≡◌, ◌≢◌, [], ◌∷◌, List, Some, IfOk, Err, ⊤, ◌<◌, ℕ, slice_index};
 ghost use Rattle.grammar.specs.Fields.{Value, u32_field, AllMean, AreAtFault};
 ghost use Rattle.grammar.specs.declared.fault.LineFault.{LineFault};

@@ -1,3 +1,6 @@
+//! `serve` carries out a request about a connection; `Passing` has the entries that are admitted,
+//! with their random words.
+
 ghost use Rattle.std.specs.Prelude.{◌≡◌, ◌++◌, [], ◌∷◌, IfOk, OnOk, OnErr, ◌≤◌, length, map, take};
 ghost use Rattle.limiter.specs.State.{find_conn, set_conn, AreRising};
 ghost use Rattle.addr_limit.specs.Steps.{serve, is_internal, unless_hidden, for_output};

@@ -82,6 +82,7 @@ IsNoTable file back.NotSane =
 IsNoTable file back.TooMany =
     (tree : Tree) × IsSaneFile tree file × (MAX_ROWS < length (rows_back tree))
 
+-- The code and the fault that tell why an asmap is not turned back.
 abbrev pub TellsNoTable : NoTable → ℕ → AddrmanFault → Type 0
 TellsNoTable back.Memory code fault = code ≡ MEMORY
 TellsNoTable back.NotSane code fault = (code ≡ REFUSED) × (fault ≡ fault_at 21 0)

@@ -11,13 +11,13 @@ use Rattle.c_values.specs.declared.code.TheConstants.{OK, CLOSED, MEMORY, ARGUME
 use Rattle.c_handles.specs.declared.save_handle.KeptSave.{KeptSave}
 use Rattle.c_values.specs.Values.{IsPut}
 
--- A closed handle stays closed. An open one stays open, and its requests before and after are as
--- the call says.
-abbrev pub OnSave : Option KeptSave → ℕ → Option KeptSave
-    → (List Request → List Request → Type 0) → Type 0
+-- A closed handle stays closed. An open one is closed if nothing is left to do: a save that is over
+-- keeps no memory. Else its requests stay as they were, and are as the call says.
+abbrev pub OnSave : Option KeptSave → ℕ → Option KeptSave → (List Request → Type 0) → Type 0
 OnSave None code new Call = (code ≡ CLOSED) × (new ≡ None)
-OnSave (Some kept) code None Call = ⊥
-OnSave (Some kept) code (Some after) Call = Call kept.requests after.requests
+OnSave (Some kept) code None Call = (code ≡ NONE) × (kept.requests ≡ [])
+OnSave (Some kept) code (Some after) Call =
+    (after.requests ≡ kept.requests) × Call kept.requests
 
 -- The requests of a save of these bytes. A folder on which they are carried out keeps what a save
 -- promises.
@@ -41,10 +41,10 @@ request_number Sync = 2
 request_number Rename = 3
 request_number SyncDir = 4
 
--- the code and the outputs for the first of the requests, or for none
-abbrev pub NextCall : List Request → ℕ → ℕ → List ℕ → List ℕ → ℕ → Type 0
-NextCall [] code request old new count = (code ≡ NONE) × (new ≡ old)
-NextCall (first ∷ rest) code request old new count =
+-- the code and the outputs for the first of the requests, of which there is one
+abbrev pub NextCall : ℕ → ℕ → List ℕ → List ℕ → ℕ → List Request → Type 0
+NextCall code request old new count [] = ⊥
+NextCall code request old new count (first ∷ rest) =
     (request ≡ request_number first.what) × IsPut first.bytes old code count new
 
 -- it was carried out, or failed, which closes the handle

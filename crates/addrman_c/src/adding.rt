@@ -1,3 +1,6 @@
+//! Adds one entry, a message, or the first entries of one: `addrman_add`, `addrman_take_message`
+//! and `addrman_take_first`; with `MOST_RECORDS`.
+
 ghost use Rattle.std.specs.Prelude.{◌≡◌, ◌≢◌};
 ghost use Rattle.c_values.specs.Values.{peer_in, address_in};
 ghost use Rattle.addrman_c.specs.Calls.{AddCall, FirstCall, MessageCall, Tells, form_of};

@@ -1,3 +1,6 @@
+//! Adds the entries of a message that services, networks and bans choose: `addrman_take_chosen` and
+//! `addrman_take_unbanned`.
+
 ghost use Rattle.std.specs.Prelude.{◌≡◌, ◌≢◌, ◌%◌, []};
 ghost use Rattle.net_addr.specs.NetBits.{nets_of};
 ghost use Rattle.c_values.specs.Values.{address_in};

@@ -1,3 +1,6 @@
+//! The exports on addresses: `addrman_addr_parse`, `addrman_peer_text`, `addrman_name_text`,
+//! `addrman_addr_class` and others.
+
 ghost use Rattle.std.specs.Prelude.{◌≡◌, ◌≢◌, Some};
 ghost use Rattle.net_addr.specs.Address.{Address};
 ghost use Rattle.net_addr.specs.Text.{IsAddrText, IsPeerText, addr_text, peer_text};
@@ -7,13 +10,12 @@ ghost use Rattle.names.specs.Name.{IsName, name_text};
 ghost use Rattle.addrman_c.specs.Texts.{TextCall, ClassCall, RoutableCall, OldFormCall};
 ghost use Rattle.net_addr.specs.OldForm.{from_v1};
 
-use crate::address_text::{addr_text, name_text, peer_text};
 use c_values::code::{ARGUMENT, NONE, OK, SHORT_BUFFER};
 use c_values::{
     AddrmanAddr, AddrmanPeer, bit, put_all, read_addr, read_peer, write_addr, write_peer,
 };
-use names::parse_name;
-use net_addr::{NetAddr, Peer, parse_addr, parse_peer};
+use names::{name_text, parse_name};
+use net_addr::{NetAddr, Peer, addr_text, parse_addr, parse_peer, peer_text};
 
 /// Parses the text of an address.
 #[unsafe(no_mangle)]

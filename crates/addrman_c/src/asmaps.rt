@@ -1,3 +1,6 @@
+//! Compiles tables of prefixes and turns asmaps back: `addrman_asmap_compile` and
+//! `addrman_asmap_decompile`; with `NoAsmap` and `NoTable`.
+
 ghost use Rattle.std.specs.Prelude.{◌≡◌, ◌≢◌, IfOk, IfErr};
 ghost use Rattle.addrman_c.specs.Asmaps.{BackCall, CompileCall, IsCompiled, IsNoAsmap, IsNoTable, IsTextOf, TellsNoAsmap, TellsNoTable, table_fault};
 

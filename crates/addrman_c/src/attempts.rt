@@ -1,3 +1,6 @@
+//! What came of a connection: `addrman_good`, `addrman_attempt`, `addrman_connected` and
+//! `addrman_set_services`.
+
 ghost use Rattle.std.specs.Prelude.{◌≡◌, ◌≢◌};
 ghost use Rattle.table_machine.specs.Tried.{attempt, connected, set_services};
 ghost use Rattle.c_values.specs.Values.{peer_in};

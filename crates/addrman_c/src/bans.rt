@@ -1,3 +1,6 @@
+//! Lists of bans: `addrman_bans_open`, `_write`, `_add`, `_remove`, `_covering`, and
+//! `addrman_subnet_parse`.
+
 ghost use Rattle.std.specs.Prelude.{◌≡◌, ◌≢◌, Option, None, IfOk, IfErr, IfSome};
 ghost use Rattle.ban_list.specs.declared.subnet.Subnet.{Subnet};
 ghost use Rattle.ban_list.specs.Subnet.{IsProper};

@@ -1,3 +1,5 @@
+//! Answers to `getaddr` as messages: `addrman_answers_open`, `_forget`, and `addrman_answer`.
+
 ghost use Rattle.std.specs.Prelude.{◌≡◌, ◌≢◌, ◌≤◌, None, length};
 ghost use Rattle.addr_codecs.specs.declared.message.TheConstants.{MAX_ENTRIES};
 ghost use Rattle.c_values.specs.Values.{class_of};

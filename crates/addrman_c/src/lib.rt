@@ -12,7 +12,6 @@ ghost use Rattle.std.specs.Prelude.{◌≡◌};
 
 mod adding;
 mod adding_chosen;
-mod address_text;
 mod addresses;
 mod asmaps;
 mod attempts;
@@ -68,10 +67,11 @@ pub use risk::{AddrmanSet, AddrmanShares, addrman_risk};
 pub use sampling::{addrman_sample, addrman_sample_entries, addrman_sample_unfiltered};
 pub use saves::{addrman_save_begin, addrman_save_close, addrman_save_done, addrman_save_next};
 
-/// Returns the number of the structs' layout and of the calls, `ADDRMAN_ABI` in the header.
+/// Returns the numbers of the structs' layout and of the calls, `ADDRMAN_ABI` in the header: the
+/// minor number, 1, in the lower sixteen bits, and the major one, 1, above them.
 #[unsafe(no_mangle)]
 pub extern "C" fn addrman_abi() -> u32
-    ensures { result ≡ 2 }
+    ensures { result ≡ 65537 }
 {
-    2
+    0x1_0001
 }

@@ -1,3 +1,6 @@
+//! The limit on received addresses: `addrman_limiter_open`, `_add`, `_getaddr`, `_admit` and
+//! `_stat`.
+
 ghost use Rattle.std.specs.Prelude.{◌≡◌, ◌≢◌, None, is_some};
 ghost use Rattle.limiter.specs.State.{find_conn, without_conn};
 ghost use Rattle.limiter.specs.Calls.{asked_of, after_asking};

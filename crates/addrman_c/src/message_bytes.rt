@@ -1,3 +1,6 @@
+//! Reads, counts and writes payloads without tables: `addrman_message_count`,
+//! `addrman_read_message` and `addrman_write_message`.
+
 ghost use Rattle.std.specs.Prelude.{◌≡◌, ◌≢◌, IfOk};
 ghost use Rattle.addrman_c.specs.Calls.{form_of};
 ghost use Rattle.addrman_c.specs.Messages.{CountCall, PutKnown, ReadMessageCall, WriteMessageCall, known};

@@ -1,3 +1,6 @@
+//! Empty tables, and their end: `addrman_open`, `addrman_open_core` and `addrman_close`; with
+//! `check_map` and `placer_of`.
+
 ghost use Rattle.std.specs.Prelude.{◌≡◌, [], None, IfOk, IfErr, IfSome};
 ghost use Rattle.placing.specs.Inside.{map_of};
 ghost use Rattle.placing.specs.declared.sum.SumRule.TheVariants.{Bytes, Bits};

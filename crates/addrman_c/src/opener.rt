@@ -1,3 +1,5 @@
+//! Outbound peers: `addrman_opener_judge`, `_add`, `_remove`, `_peers`, and `addrman_judge_feeler`.
+
 ghost use Rattle.std.specs.Prelude.{◌≡◌, ◌≢◌};
 ghost use Rattle.peer_open.specs.Verdicts.{judge_feeler};
 ghost use Rattle.c_values.specs.Values.{peer_in};

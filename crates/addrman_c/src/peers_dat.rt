@@ -1,3 +1,6 @@
+//! Tables from the bytes of a file, and back: `addrman_open_file` and `addrman_write_file`; with
+//! `LoadFault` and `chain_of`.
+
 ghost use Rattle.std.specs.Prelude.{◌≡◌, ◌≢◌, IfOk, IfErr, IfSome};
 ghost use Rattle.addrman_c.specs.Files.{chain_of, WriteCall};
 ghost use Rattle.placing.specs.Inside.{map_of};

@@ -1,3 +1,6 @@
+//! Selects peers and occupants: `addrman_select`, `addrman_select_record`,
+//! `addrman_select_collision` and `addrman_resolve_collisions`.
+
 ghost use Rattle.std.specs.Prelude.{◌≡◌, ◌≢◌, ◌%◌};
 ghost use Rattle.net_addr.specs.NetBits.{nets_of};
 ghost use Rattle.table_machine.specs.Picks.{select};

@@ -1,3 +1,6 @@
+//! AS numbers, groups and slots of an address: `addrman_asn`, `addrman_group`,
+//! `addrman_asmap_check`, `addrman_new_slot` and `addrman_tried_slot`.
+
 ghost use Rattle.std.specs.Prelude.{◌≡◌, ◌≢◌};
 ghost use Rattle.c_values.specs.Values.{address_in, peer_in};
 ghost use Rattle.addrman_c.specs.Groups.{AsnCall, GroupCall, CheckCall, NewSlotCall, TriedSlotCall};

@@ -1,3 +1,6 @@
+//! Finds and counts records: `addrman_find`, `addrman_records`, `addrman_size` and
+//! `addrman_size_of`.
+
 ghost use Rattle.std.specs.Prelude.{◌≡◌, ◌≢◌, ◌%◌, length, count_by, not};
 ghost use Rattle.net_addr.specs.NetBits.{nets_of};
 ghost use Rattle.peer_rec.specs.Rec.{is_tried};

@@ -1,3 +1,5 @@
+//! The share of the picks that fall to sets: `addrman_risk`, `AddrmanSet` and `AddrmanShares`.
+
 ghost use Rattle.std.specs.Prelude.{◌≡◌, ◌≢◌, ◌≤◌, length, IfOk};
 ghost use Rattle.addrman_c.specs.OnHandle.{OnTables};
 ghost use Rattle.addrman_c.specs.Risk.{RiskCall, set_in, sets_in, subnet_of};

@@ -1,3 +1,5 @@
+//! Samples of peers, or of entries with times: `addrman_sample` and `addrman_sample_entries`.
+
 ghost use Rattle.std.specs.Prelude.{◌≡◌, ◌≢◌, ◌%◌, IfOk, option_map};
 ghost use Rattle.net_addr.specs.NetBits.{nets_of};
 ghost use Rattle.addrman_c.specs.Sampling.{SampleCall, PutEntries, SampleEntriesCall, UnfilteredCall, entries_of, entry};

@@ -1,3 +1,5 @@
+//! A save as requests to the caller: `addrman_save_begin`, `_next`, `_done` and `_close`.
+
 ghost use Rattle.std.specs.Prelude.{◌≡◌, ◌≢◌, ◌<◌, Option, None, IfSome};
 ghost use Rattle.peers_file.specs.Texts.{file_text};
 ghost use Rattle.table_machine.specs.Snapshot.{snapshot_of};
@@ -63,7 +65,7 @@ fn begin_on(
     OK
 }
 
-/// Begins a save of the tables as they are now, in pieces of at most `most` bytes. What the handle
+/// Begins a save of the tables as they are now, in pieces of at most `max` bytes. What the handle
 /// of the save had is dropped.
 #[unsafe(no_mangle)]
 pub extern "C" fn addrman_save_begin(
@@ -99,20 +101,8 @@ fn request_number(request: SaveRequest) -> u32
     }
 }
 
-/// Writes what a save asks for.
-fn next_on(requests: &SaveRequests, request: &mut u32, out: &mut [u8], length: &mut usize) -> u32
-    ensures call { NextCall requests.now result request.new out.old out.new length.new }
-    ensures request { result ≢ OK → result ≢ SHORT_BUFFER → request.new ≡ request.old }
-    ensures length { result ≢ OK → result ≢ SHORT_BUFFER → length.new ≡ length.old }
-{
-    let Some(next) = requests.next() else {
-        return NONE;
-    };
-    *request = request_number(next);
-    put_all(out, requests.bytes(), length)
-}
-
-/// Writes what is to be done next, and the bytes to append and how many they are.
+/// Writes what is to be done next, and the bytes to append and how many they are. If nothing is
+/// left to do, the file is saved, and the handle is closed.
 #[unsafe(no_mangle)]
 pub extern "C" fn addrman_save_next(
     alloc: Global,
@@ -121,8 +111,8 @@ pub extern "C" fn addrman_save_next(
     out: &mut [u8],
     length: &mut usize,
 ) -> u32
-    ensures call { OnSave save.old.loose.kept result save.new.loose.kept (λ old new.
-        NextCall old result request.new out.old out.new length.new × (new ≡ old)) }
+    ensures call { OnSave save.old.loose.kept result save.new.loose.kept (
+        NextCall result request.new out.old out.new length.new) }
     ensures same { result ≢ OK → out.new ≡ out.old }
     ensures request { result ≢ OK → result ≢ SHORT_BUFFER → request.new ≡ request.old }
     ensures length { result ≢ OK → result ≢ SHORT_BUFFER → length.new ≡ length.old }
@@ -130,7 +120,11 @@ pub extern "C" fn addrman_save_next(
     let Some(kept) = save.take(alloc) else {
         return CLOSED;
     };
-    let code = next_on(&kept.requests, request, out, length);
+    let Some(next) = kept.requests.next() else {
+        return NONE;
+    };
+    *request = request_number(next);
+    let code = put_all(out, kept.requests.bytes(), length);
     save.put(kept);
     code
 }

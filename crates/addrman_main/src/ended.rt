@@ -1,3 +1,5 @@
+//! `Ended`: the exit code and the lines that are printed at the end (`Termination`).
+
 ghost use Rattle.std.specs.Prelude.{◌≡◌};
 ghost use Rattle.std.specs.Process.{exit_status};
 ghost use Rattle.addrman_run.specs.Report.{code_of};

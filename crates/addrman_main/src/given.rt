@@ -1,4 +1,8 @@
-use hints::{ANCHORS, Paths, expected_text};
+//! `Given`, the options that `run` does not have: `-C`, `--key-file`, and the files after
+//! `--peers`, `--asmap`, `--bans` and `--anchors`.
+
+use crate::in_order::{NO_ARGUMENT, is_dashed};
+use hints::{ANCHORS, Paths, expected_text, tilde_hint};
 use host_io::Name;
 use std::alloc::{AllocError, Global};
 use std::fs::File;
@@ -11,12 +15,6 @@ const KEY_DIGITS: usize = 64;
 
 /// How many bytes of a file with a key are read at once: more than it may have.
 const PIECE: usize = 80;
-
-/// The commands that take `--core`: those that read peers.dat or banlist.json.
-static CORE_COMMANDS: [&str; 14] = [
-    "replay", "opener", "show", "picture", "raw", "info", "groups", "risk", "from-raw", "diff",
-    "ban", "unban", "banned", "bans",
-];
 
 /// The commands that take `--raw -`.
 static RAW_COMMANDS: [&str; 4] = ["picture", "info", "groups", "risk"];
@@ -42,14 +40,14 @@ static ASMAP_FILE: [&str; 11] = [
     "address",
 ];
 
+/// The commands that place the records of peers.dat under an asmap: the one beside it.
+static PLACING: [&str; 5] = ["picture", "raw", "info", "groups", "risk"];
+
 /// The commands that take `--bans FILE`.
 static BANS_FILE: [&str; 2] = ["banned", "bans"];
 
 /// The commands that take `--anchors` and perhaps a file.
 static ANCHORS_FILE: [&str; 1] = ["show"];
-
-/// An argument that no command takes.
-const NO_ARGUMENT: &str = "--";
 
 /// The arguments of a run: those of the command line, but for what the program does around `run`.
 #[derive(Drop)]
@@ -57,6 +55,8 @@ pub(crate) struct Given<'a> {
     pub words: Vec<String>,
     /// The files that are read in the place of those of the current folder.
     pub paths: Paths<'a>,
+    /// The asmap beside a named peers.dat in another folder, unless an option names an asmap.
+    pub beside: String,
     /// What is said of an option that the program takes itself, if its value is wrong. `run`
     /// refuses the arguments then.
     pub hint: String,
@@ -92,8 +92,8 @@ pub(crate) fn folder_of(words: &[String]) -> Option<(&str, usize)> {
 impl<'a> Given<'a> {
     /// Makes the arguments of a run: `help COMMAND` if an option asks for it, `version` for `-V`,
     /// and for `--key-file FILE` the key in the file, so that the list of processes doesn't have
-    /// it. `--core` or `--raw -` comes first among the arguments, wherever it was, and before it
-    /// the rules of `opener`. Options that name a file to be read are left out.
+    /// it. Options that name a file to be read are left out. The arguments are in the order of
+    /// `put_in_order`.
     pub(crate) fn of<R: Files>(
         alloc: Global,
         rt: &R,
@@ -102,6 +102,7 @@ impl<'a> Given<'a> {
         let mut given = Given {
             words: Vec::new(alloc),
             paths: Paths::none(),
+            beside: String::new(alloc),
             hint: String::new(alloc),
         };
         let Some((command, rest)) = words.split_first() else {
@@ -130,40 +131,27 @@ impl<'a> Given<'a> {
             self.add(alloc, "--anchors")?;
             self.paths.has_anchors = true;
         }
-        let listing = listing_words(command, rest);
-        for word in rest.get(listing.start..listing.end).unwrap_or(&[]) {
-            self.add(alloc, word.as_str())?;
-            self.paths.has_listing = true;
-        }
-        let rules = rule_words(command, rest);
-        for span in &rules {
-            for word in rest.get(span.start..span.end).unwrap_or(&[]) {
-                self.add(alloc, word.as_str())?;
-            }
-        }
-        let is_read = !self.paths.has_anchors && is_among(&CORE_COMMANDS, command);
-        let mut is_core = is_read && has_core(rest);
-        if is_core {
-            self.add(alloc, "--core")?;
-        }
+        self.paths.has_listing = is_among(&RAW_COMMANDS, command) && has_listing(rest);
         let mut next = Next::Any;
-        for (i, word) in rest.iter().enumerate() {
-            let word = word.as_str();
-            if is_core && word == "--core" {
-                is_core = false;
-            } else if !listing.contains(i) && !is_moved(&rules, i) {
-                next = self.take(alloc, rt, command, next, word)?;
-            }
+        for word in rest {
+            next = self.take(alloc, rt, command, next, word.as_str())?;
         }
-        match next {
-            Next::KeyFile => {
-                self.add(alloc, "--key-file")?;
-                self.hint = String::from_str(alloc, "--key-file: expected a file")?;
-                Ok(())
-            }
-            Next::File(name) => self.refuse(alloc, name, "expected a file"),
-            _ => self.place_anchors(alloc, rest),
+        self.place_anchors(alloc, rest)?;
+        if is_among(&PLACING, command) && self.paths.asmap.is_none() {
+            self.find_beside(alloc)?;
         }
+        Ok(())
+    }
+
+    /// Finds the path of the asmap beside a named peers.dat, unless that is in the current folder.
+    fn find_beside(&mut self, alloc: Global) -> Result<(), AllocError> {
+        let Some(path) = self.paths.peers else {
+            return Ok(());
+        };
+        if let Some((folder, _)) = path.rsplit_once('/') {
+            self.beside = format!(in alloc; "{folder}/{}", Name::Asmap.file_name())?;
+        }
+        Ok(())
     }
 
     /// Has the folder's anchors.dat read, if no option names another file. The option comes once.
@@ -172,7 +160,7 @@ impl<'a> Given<'a> {
             return Ok(());
         }
         if anchors_options(rest) > 1 {
-            return self.refuse(alloc, Name::Peers, "it comes twice");
+            return self.refuse(alloc, Name::Peers, "given twice");
         }
         if self.paths.peers.is_none() {
             self.paths.peers = Some(ANCHORS);
@@ -190,8 +178,17 @@ impl<'a> Given<'a> {
         word: &'a str,
     ) -> Result<Next, AllocError> {
         match next {
+            Next::KeyFile if is_dashed(word) => {
+                self.hint = String::from_str(alloc, "--key-file: expected a file")?;
+                self.add(alloc, NO_ARGUMENT)?;
+                return Ok(Next::Any);
+            }
             Next::KeyFile => {
                 self.add_key(alloc, rt, word)?;
+                return Ok(Next::Any);
+            }
+            Next::File(name) if is_dashed(word) => {
+                self.refuse(alloc, name, "expected a file")?;
                 return Ok(Next::Any);
             }
             Next::File(name) => return self.set_path(alloc, name, word),
@@ -226,9 +223,9 @@ impl<'a> Given<'a> {
     /// Refuses `--peers`, since something else is read in the place of peers.dat.
     fn refuse_peers(&mut self, alloc: Global) -> Result<Next, AllocError> {
         let why = if self.paths.has_anchors {
-            "--peers: --anchors reads another file"
+            "--peers: cannot be combined with --anchors"
         } else {
-            "--peers: --raw - reads standard input"
+            "--peers: cannot be combined with --raw -"
         };
         self.hint = String::from_str(alloc, why)?;
         self.add(alloc, NO_ARGUMENT)?;
@@ -260,7 +257,7 @@ impl<'a> Given<'a> {
         if path.is_empty() || path == "-" {
             self.refuse(alloc, name, "expected a file")?;
         } else if self.paths.of(name).is_some() {
-            self.refuse(alloc, name, "it comes twice")?;
+            self.refuse(alloc, name, "given twice")?;
         } else {
             match name {
                 Name::Peers => self.paths.peers = Some(path),
@@ -294,14 +291,15 @@ impl<'a> Given<'a> {
         if path == "-" {
             self.hint = String::from_str(
                 alloc,
-                "--key-file: expected a file; standard input has the log",
+                "--key-file: expected a file, not standard input, which has the log",
             )?;
             return self.add(alloc, "--key-file");
         }
         match read_key(alloc, rt, path) {
             Ok(text) => self.add_digits(alloc, path, text),
             Err(error) => {
-                self.hint = format!(in alloc; "{path} cannot be read: {error}")?;
+                let tilde = tilde_hint(path);
+                self.hint = format!(in alloc; "{path} cannot be read: {error}{tilde}")?;
                 self.add(alloc, "--key-file")
             }
         }
@@ -369,94 +367,15 @@ fn anchors_options(words: &[String]) -> usize {
     count
 }
 
-/// Some of the arguments after a command, from an index to another.
-#[derive(Clone, Copy)]
-struct Span {
-    start: usize,
-    end: usize,
-}
-
-impl Span {
-    /// Returns `true` if the argument of this index is one of them.
-    fn contains(self, index: usize) -> bool {
-        self.start <= index && index < self.end
-    }
-}
-
-/// Returns the arguments that are `--raw -`, none if there are none or the command doesn't take
-/// them.
-fn listing_words(command: &str, words: &[String]) -> Span {
+/// Returns `true` if the arguments ask for the listing on standard input.
+fn has_listing(words: &[String]) -> bool {
     let mut is_raw = false;
-    if is_among(&RAW_COMMANDS, command) {
-        for (i, word) in words.iter().enumerate() {
-            let word = word.as_str();
-            let end = i.saturating_add(1);
-            if word == "--raw=-" {
-                return Span { start: i, end };
-            }
-            if is_raw && word == "-" {
-                let start = i.saturating_sub(1);
-                return Span { start, end };
-            }
-            is_raw = word == "--raw";
-        }
-    }
-    Span { start: 0, end: 0 }
-}
-
-/// Returns the arguments that are the options of `opener` which choose rules, in the order in which
-/// `run` takes them, none of another command.
-fn rule_words(command: &str, words: &[String]) -> [Span; 3] {
-    if command != "opener" {
-        return [Span { start: 0, end: 0 }; 3];
-    }
-    [
-        option_words(words, "--exempt", true),
-        option_words(words, "--services", true),
-        option_words(words, "--skip-bad-ports", false),
-    ]
-}
-
-/// Returns the arguments that are the first option of this name, with its value.
-fn option_words(words: &[String], name: &str, has_value: bool) -> Span {
-    for (i, word) in words.iter().enumerate() {
-        let word = word.as_str();
-        let end = i.saturating_add(1);
-        if word == name {
-            let end = if has_value {
-                end.saturating_add(1)
-            } else {
-                end
-            };
-            return Span {
-                start: i,
-                end: end.min(words.len()),
-            };
-        }
-        let begins = word.strip_prefix(name);
-        if has_value && begins.is_some_and(|rest| rest.starts_with("=")) {
-            return Span { start: i, end };
-        }
-    }
-    Span { start: 0, end: 0 }
-}
-
-/// Returns `true` if the argument of this index is among those that come first.
-fn is_moved(spans: &[Span], index: usize) -> bool {
-    for span in spans {
-        if span.contains(index) {
-            return true;
-        }
-    }
-    false
-}
-
-/// Returns `true` if one of the arguments is `--core`.
-fn has_core(words: &[String]) -> bool {
     for word in words {
-        if word.as_str() == "--core" {
+        let word = word.as_str();
+        if word == "--raw=-" || is_raw && word == "-" {
             return true;
         }
+        is_raw = word == "--raw";
     }
     false
 }

@@ -11,24 +11,26 @@
 
 mod ended;
 mod given;
+mod in_order;
 mod placed;
 mod second;
 
 use crate::given::{Given, folder_of};
+use crate::in_order::put_in_order;
 use crate::placed::Placed;
 pub use crate::second::Facts;
 use crate::second::second_lines;
 use addrman_run::{Learned, Status, run_learning, status_line};
 use arguments::{help_text, read_request};
 pub use ended::Ended;
-use hints::NotedFolder;
+use hints::{NotedFolder, tilde_hint};
 use host_io::{Bytes, DirFolder, Name, Source, StdSink, StdSource};
 use raw_file::{InputFault, ListingFault, read_input};
 use raw_read::{MAX_TEXT, RawFault};
 use std::alloc::Global;
 use std::fs::File;
 use std::hash::RandomState;
-use std::io::{Read, Write};
+use std::io::{ErrorKind, Read, Write};
 use std::rt::{Env, Files};
 use std::{env, io};
 
@@ -39,6 +41,15 @@ fn arguments_of(rt: &(impl Env + AllocGlobal)) -> io::Result<Vec<String>> {
         words.push(word)?;
     }
     Ok(words)
+}
+
+/// Says why the arguments cannot be read.
+fn without_words(error: io::Error) -> &'static str {
+    if error.kind() == ErrorKind::InvalidData {
+        "addrman: the arguments cannot be read\naddrman: an argument or a file name is not UTF-8\n"
+    } else {
+        "addrman: the arguments cannot be read\n"
+    }
 }
 
 /// Opens the root folder three times, so that descriptors 0 to 2 are open from here on. A standard
@@ -89,7 +100,8 @@ fn line_of(alloc: Global, status: &Status) -> String {
 fn without_folder(alloc: Global, folder: &str, error: io::Error) -> Ended {
     let status = Status::DiskFault;
     let mut text = line_of(alloc, &status);
-    if let Ok(line) = format!(in alloc; "addrman: {folder} cannot be entered: {error}\n") {
+    let tilde = tilde_hint(folder);
+    if let Ok(line) = format!(in alloc; "addrman: cannot change to {folder}: {error}{tilde}\n") {
         let _ = text.push_str(line.as_str());
     }
     Ended::with(&status, text)
@@ -104,8 +116,9 @@ pub fn run_program(rt: &HostRuntime) -> Ended {
     let Ok(_streams) = open_closed_streams(rt) else {
         return Ended::before_the_run("addrman: the standard streams cannot be opened\n");
     };
-    let Ok(words) = arguments_of(rt) else {
-        return Ended::before_the_run("addrman: the arguments cannot be read\n");
+    let words = match arguments_of(rt) {
+        Ok(words) => words,
+        Err(error) => return Ended::before_the_run(without_words(error)),
     };
     let Ok(hasher) = RandomState::new(rt) else {
         return Ended::before_the_run("addrman: the system gives no random numbers\n");
@@ -119,7 +132,10 @@ pub fn run_program(rt: &HostRuntime) -> Ended {
             rest = after;
         }
     }
-    match Given::of(rt.alloc(), rt, rest) {
+    let Ok(ordered) = put_in_order(rt.alloc(), rest) else {
+        return Ended::before_the_run("addrman: the arguments cannot be read\n");
+    };
+    match Given::of(rt.alloc(), rt, ordered.as_slice()) {
         Ok(given) => run_over(rt, hasher, &given, rt.reader(), io::writer(rt)),
         Err(_) => Ended::before_the_run("addrman: the arguments cannot be read\n"),
     }
@@ -157,7 +173,12 @@ fn run_over<I: Read + Drop, O: Write + Drop>(
     let alloc = rt.alloc();
     let words = given.words.as_slice();
     let tells_saves = words.first().is_some_and(|word| word.as_str() == "replay");
-    let placed = Placed::make(rt, given.paths);
+    let mut paths = given.paths;
+    if !given.beside.is_empty() {
+        paths.asmap = Some(given.beside.as_str());
+        paths.is_beside = true;
+    }
+    let placed = Placed::make(rt, paths);
     let mut log = StdSource::make(input);
     let listing = listing_of(alloc, given, &mut log);
     let text = match &listing {
@@ -179,11 +200,9 @@ fn run_over<I: Read + Drop, O: Write + Drop>(
             &mut learned,
         ),
     };
-    let failure = folder
-        .failure_text(&given.paths)
-        .unwrap_or(String::new(alloc));
+    let failure = folder.failure_text(&paths).unwrap_or(String::new(alloc));
     let status = match placed.missing() {
-        Some(Name::Peers) if given.paths.has_anchors => Status::NoAnchors,
+        Some(Name::Peers) if paths.has_anchors => Status::NoAnchors,
         Some(name) => Status::NoFile { name },
         None => status,
     };
@@ -191,7 +210,7 @@ fn run_over<I: Read + Drop, O: Write + Drop>(
         words,
         hint: given.hint.as_str(),
         learned: &learned,
-        paths: &given.paths,
+        paths: &paths,
         input: log.error(),
         output: out.error(),
         failure: failure.as_str(),

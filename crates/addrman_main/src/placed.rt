@@ -1,3 +1,5 @@
+//! `Placed`: the system with another path instead of a file's own.
+
 use hints::Paths;
 use host_io::Name;
 use std::alloc::{Allocator, Global};
@@ -52,9 +54,11 @@ impl<'a> Placed<'a> {
         None
     }
 
-    /// Returns the error of a path: a file that is missing is not absent from the folder.
+    /// Returns the error of a path: a file that is missing is not absent from the folder, unless it
+    /// is the asmap beside peers.dat.
     fn error(&self, name: Name, error: io::Error) -> io::Error {
-        if error.kind() != ErrorKind::NotFound {
+        let may_lack = name == Name::Asmap && self.paths.is_beside;
+        if error.kind() != ErrorKind::NotFound || may_lack {
             return error;
         }
         self.missing.set(Some(name));

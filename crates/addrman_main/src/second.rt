@@ -1,3 +1,5 @@
+//! Which hint belongs to which status (`second_lines`).
+
 use addrman_run::{Learned, PeersFault, Status, SumFit, TablesFault};
 use hints::{
     Paths, Saves, anchors_hint, asmap_hint, bans_hint, compile_hint, duplicate_hint, line_hint,
@@ -62,12 +64,9 @@ fn put_lines(
     }
     if !matches!(status, Status::PeersRefused(_)) {
         if facts.learned.is_key_unused() {
-            put_line(
-                "the key of the arguments is not used: peers.dat has its own",
-                text,
-            )?;
+            put_line("the key given is not used: peers.dat has its own", text)?;
         }
-        let hint = sum_hint(alloc, facts.learned)?;
+        let hint = sum_hint(alloc, facts.learned, facts.paths)?;
         put_line(hint.as_str(), text)?;
     }
     if *status == Status::Done {
@@ -126,10 +125,10 @@ fn hint_of(alloc: Global, status: &Status, facts: &Facts<'_>) -> Result<String, 
 fn fixed_hint(status: &Status) -> &'static str {
     match status {
         Status::NoKey =>
-            "the current folder has no peers.dat: give --key and 64 hexadecimal digits",
+            "there is no peers.dat in the current directory: give --key-file FILE or --key HEX64",
         Status::LineTooLong { .. } => "a line has at most 2000000 bytes",
         Status::LogTooLong => "a log has at most 1073741824 bytes",
-        Status::TooManyRows => "compile takes no more rows either",
+        Status::TooManyRows => "compile does not accept more rows either",
         _ => "",
     }
 }
@@ -163,30 +162,38 @@ fn refused_hint(alloc: Global, fault: &PeersFault, head: &[u8]) -> Result<String
 }
 
 /// Returns what is said of the checksum of an asmap in peers.dat, if it is not that of the asmap in
-/// use.
-fn sum_hint(alloc: Global, learned: &Learned) -> Result<String, AllocError> {
-    let said = fit_text(learned.sum_fit());
+/// use. Both files are named.
+fn sum_hint(alloc: Global, learned: &Learned, paths: &Paths<'_>) -> Result<String, AllocError> {
+    let peers = paths.text_of(Name::Peers);
+    let asmap = paths.text_of(Name::Asmap);
+    let mut said = fit_text(alloc, learned.sum_fit(), peers, asmap)?;
     let count = learned.left_out();
-    if said.is_empty() || count == 0 {
-        return String::from_str(alloc, said);
+    if !said.is_empty() && count > 0 {
+        said.push_str(format!(in alloc; "; records left out: {count}")?.as_str())?;
     }
-    format!(in alloc; "{said}; left out: {count}")
+    Ok(said)
 }
 
 /// Returns how the checksum of an asmap in peers.dat fits, or nothing if it is the same.
-fn fit_text(fit: SumFit) -> &'static str {
+fn fit_text(alloc: Global, fit: SumFit, peers: &str, asmap: &str) -> Result<String, AllocError> {
+    let anew = "its new records are re-bucketed";
     match fit {
-        SumFit::Same => "",
-        SumFit::Core => "peers.dat was written by Bitcoin Core under this asmap: use --core, \
-             else its new records are placed anew",
-        SumFit::Own => "peers.dat was written by addrman under this asmap: leave out --core, \
-             else its new records are placed anew",
-        SumFit::NoneThen =>
-            "peers.dat was written without an asmap: its new records are placed anew",
-        SumFit::NoneNow => "peers.dat was written under an asmap, and asmap.dat is missing: \
-             its new records are placed anew",
-        SumFit::Other =>
-            "peers.dat was written under another asmap: its new records are placed anew",
+        SumFit::Same => Ok(String::new(alloc)),
+        SumFit::Core => format!(in alloc;
+            "{peers} was written by Bitcoin Core with {asmap}: use --core, or {anew}"
+        ),
+        SumFit::Own => format!(in alloc;
+            "{peers} was written by addrman with {asmap}: leave out --core, or {anew}"
+        ),
+        SumFit::NoneThen => format!(in alloc;
+            "{peers} was written without an asmap, and {asmap} is used: {anew}"
+        ),
+        SumFit::NoneNow => format!(in alloc;
+            "{peers} was written with an asmap, and {asmap} is missing: {anew}"
+        ),
+        SumFit::Other => format!(in alloc;
+            "{peers} was written with another asmap than {asmap}: {anew}"
+        ),
     }
 }
 
@@ -197,12 +204,12 @@ fn passed_over_hint(alloc: Global, learned: &Learned) -> Result<String, AllocErr
         return Ok(String::new(alloc));
     }
     let after_save = if learned.is_rest_kept() {
-        "which a save keeps"
+        "kept by a save"
     } else {
-        "which a save leaves out"
+        "dropped by a save"
     };
     let form = "a ban has version 1, a subnet and two times";
-    format!(in alloc; "elements of banlist.json passed over, {after_save}: {count}; {form}")
+    format!(in alloc; "elements of banlist.json skipped, {after_save}: {count}; {form}")
 }
 
 /// Returns what is said of the saves, if some failed.

@@ -24,6 +24,7 @@ name_lines a =
     value_line (codes "network ") (net_name a.net)
     ++ (value_line (codes "address ") (addr_text a) ++ value_line (codes "name ") (name_text a))
 
+-- A truth value as a word.
 abbrev pub yes_or_no : Bool → List ℕ
 yes_or_no true = codes "yes"
 yes_or_no false = codes "no"
@@ -52,5 +53,7 @@ abbrev pub IsAddressText : Address → Option Past → List ℕ → Type 0
 IsAddressText a past text =
     (map : Option Asmap) × IsMapIn past map × (text ≡ address_text map a)
 
+-- How `address` ends: it writes the lines about the address, under asmap.dat if the folder has one,
+-- or reports why asmap.dat is refused. Nothing in the folder changes.
 abbrev pub AddressEnds : Address → Outside → Outside → Status → Type 0
 AddressEnds a = TextEnds (IsAddressText a) ReportsAsmap

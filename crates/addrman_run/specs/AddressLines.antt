@@ -37,7 +37,8 @@ AddressLinesOutcome old new =
     LogOutcome (Described old.past (streams_of old) (streams_of new))
     (λ answer. IsNoMap old.past answer × IsUntouched old new)
 
--- No file is changed, and at most one byte more than a log may have was read.
+-- How `address -` ends: its outcome by its status. No file is changed, and at most one byte more
+-- than a log may have is read.
 pub record AddressLinesEnds (old new : Outside) (answer : Status) : Type 0 where
   pub outcome : AddressLinesOutcome old new answer
   pub taken : TakesAtMost old.left new.left (MAX_LOG + 1)

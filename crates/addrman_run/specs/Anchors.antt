@@ -33,5 +33,7 @@ abbrev pub ReportsAnchors : Chain → Option Past → Status → Type 0
 ReportsAnchors chain past (AnchorsRefused fault) = RefusesAnchors chain past fault
 ReportsAnchors chain past other = ⊥
 
+-- How `show --anchors` ends: it writes the listing of the file of anchors, or reports that the file
+-- is absent or why it is refused. Nothing in the folder changes.
 abbrev pub AnchorsEnds : Chain → Outside → Outside → Status → Type 0
 AnchorsEnds chain = FileLineEnds name.Peers (IsAnchorsText chain) (ReportsAnchors chain)

@@ -61,6 +61,7 @@ pub record Change : Type 0 where
   pub line : List ℕ
   pub saved : Option (List Ban)
 
+-- The line about a ban.
 abbrev pub reply_text : BanReply → List ℕ
 reply_text Added = codes "ban added\n"
 reply_text Kept = codes "ban kept\n"
@@ -78,6 +79,8 @@ ban_change rule new bans = record {
   saved = saved_by (after_ban_by rule new bans).reply (after_ban_by rule new bans).bans;
 }
 
+-- What `unban` makes of the list, by whether the subnet is listed: the list without its ban is
+-- saved, or nothing is.
 abbrev pub unban_by : Bool → List Ban → Change
 unban_by true rest = record { line = codes "removed\n"; saved = Some rest }
 unban_by false rest = record { line = codes "absent\n"; saved = None }
@@ -86,6 +89,7 @@ unban_by false rest = record { line = codes "absent\n"; saved = None }
 abbrev pub unban_change : Subnet → List Ban → Change
 unban_change subnet bans = unban_by (is_some (listed subnet bans)) (without_ban subnet bans)
 
+-- The line about a peer: free, or the ban that covers it.
 abbrev pub found_text : BanRule → Option Ban → List ℕ
 found_text rule None = codes "free\n"
 found_text rule (Some ban) =
@@ -104,7 +108,8 @@ IsBansText rule now past text =
 
 -- HOW THEY END
 
--- `bans` changes nothing
+-- How `bans` ends: it writes the bans still in force as JSON, or reports why banlist.json is
+-- refused. Nothing in the folder changes.
 abbrev pub ListEnds : BanRule → ℕ → Outside → Outside → Status → Type 0
 ListEnds rule now = TextEnds (IsBansText rule now) (ReportsBans rule)
 
@@ -159,6 +164,9 @@ BansText rule change old new before after Memory = (new ≡ old) × (after ≡ b
 BansText rule change old new before after other =
     ReportsBans rule old other × (new ≡ old) × (after ≡ before)
 
+-- How `ban`, `unban` and `banned` end: they write the line that follows from the list and save the
+-- list that they change, or report why they did not. At every moment the folder has the old list or
+-- the new one.
 pub record BansEnds (rule : BanRule) (change : List Ban → Change) (old new : Outside)
     (status : Status) : Type 0 where
   pub text : BansText rule change old.past new.past old.written new.written status

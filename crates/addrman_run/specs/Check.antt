@@ -11,5 +11,7 @@ use Rattle.addrman_run.specs.declared.status.Status.{Status}
 unfoldable pub check_text : Asmap → List ℕ
 check_text m = codes "sane " ++ decimal (length m.file) ++ codes " bytes\n"
 
+-- How `check` ends: it writes the size of a sane asmap.dat, or reports that it is absent or why it
+-- is refused. Nothing in the folder changes.
 abbrev pub CheckEnds : Outside → Outside → Status → Type 0
 CheckEnds = FileLineEnds name.Asmap (IsAsmapLine check_text) ReportsAsmap

@@ -71,6 +71,8 @@ CompileText old new before after Memory = (new ≡ old) × (after ≡ before)
 CompileText old new before after other =
     ReportsTable old other × (new ≡ old) × (after ≡ before)
 
+-- How `compile` ends: it saves the asmap of prefixes.txt and writes its sizes, or reports why it
+-- did not. At every moment the folder has the old asmap.dat or the new one.
 pub record CompileEnds (old new : Outside) (status : Status) : Type 0 where
   pub text : CompileText old.past new.past old.written new.written status
   pub any_moment : Always old.past new.past (IsOldOrNew old.past)

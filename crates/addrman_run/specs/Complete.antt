@@ -1,5 +1,6 @@
 -- When a run has to do what it is asked for: nothing is wrong with the log and the files, and
--- nothing fails.
+-- nothing fails. This follows from how a request ends and why a fault comes. It needs no law that
+-- bytes have one meaning, since its premise is that no refusal applies.
 use Rattle.std.specs.Prelude.{◌≡◌, ◌⊎◌, ◌≤◌, ℕ, List, All, length, Option, Some, None, ⊤, option_map}
 use Rattle.addr_limit.specs.Lines.{SaysEvent}
 use Rattle.addr_limit.specs.declared.command.Event.{Event}

@@ -34,5 +34,7 @@ ReportsDecompile past TooManyRows =
     (m : Asmap) × IsMapIn past (Some m) × (MAX_ROWS < length (rows_back m.tree))
 ReportsDecompile past other = ReportsAsmap past other
 
+-- How `decompile` ends: it writes the rows of asmap.dat, or reports that it is absent, refused or
+-- of too many rows. Nothing in the folder changes.
 abbrev pub DecompileEnds : Outside → Outside → Status → Type 0
 DecompileEnds = FileLineEnds name.Asmap IsDecompiled ReportsDecompile

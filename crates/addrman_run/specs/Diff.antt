@@ -99,7 +99,8 @@ ReportsDiff peers past (NoFile file) = LacksFile peers past file
 ReportsDiff peers past TooManyChanges = HaveTooMany peers past
 ReportsDiff peers past other = ⊥
 
--- No log is read, and no file is changed. If asmap.old is absent, that is said.
+-- How `diff` ends: it writes the changes between asmap.old and asmap.dat, or reports why not. No
+-- log is read, and no file is changed. If asmap.old is absent, that is said.
 pub record DiffEnds (peers : Option Chain) (old new : Outside) (status : Status) : Type 0 where
   pub ends : TextEnds (IsDifference peers) (ReportsDiff peers) old new status
   pub absent : ReportsAbsence name.AsmapOld old.past status

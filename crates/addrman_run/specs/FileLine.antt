@@ -23,6 +23,8 @@ FileLineText name IsLine Refuses past old new DiskFault = new ≡ old
 FileLineText name IsLine Refuses past old new Memory = new ≡ old
 FileLineText name IsLine Refuses past old new other = Refuses past other × (new ≡ old)
 
+-- How such a command ends: its text and status, that the file is absent if it says so, and that log
+-- and folder stay as they were.
 pub record FileLineEnds (name : Name) (IsLine : Option Past → List ℕ → Type 0)
     (Refuses : Option Past → Status → Type 0) (old new : Outside) (status : Status) : Type 0 where
   pub text : FileLineText name IsLine Refuses old.past old.written new.written status

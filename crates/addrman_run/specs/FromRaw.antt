@@ -104,7 +104,8 @@ FromRawOutcome key kind old new DiskFault =
 FromRawOutcome key kind old new Memory = SavesNothing old new
 FromRawOutcome key kind old new other = ⊥
 
--- At most one byte more than a listing may have was read.
+-- How `from-raw` ends: its outcome by its status. At every moment the folder has the old peers.dat
+-- or the new one, and at most one byte more than a listing may have is read.
 pub record FromRawEnds (key : List ℕ) (kind : FileKind) (old new : Outside)
     (answer : Status) : Type 0 where
   pub outcome : FromRawOutcome key kind old new answer

@@ -15,7 +15,7 @@ GenText start lines old new WriteFault = AppendedPart old new (concat (log start
 GenText start lines old new Memory = AppendedPrefix old new (concat (log start lines))
 GenText start lines old new other = ⊥
 
--- nothing is read, and no file is changed
+-- How `gen` ends: it writes the generated log. Nothing is read, and no file is changed.
 pub record GenEnds (start lines : ℕ) (old new : Outside) (status : Status) : Type 0 where
   pub text : GenText start lines old.written new.written status
   pub left : SameLog old new

@@ -11,6 +11,7 @@ use Rattle.addrman_run.specs.declared.status.Status.{Status}
 abbrev pub IsHelp : Option CommandName → List ℕ → Type 0
 IsHelp command text = text ≡ help_text command
 
+-- How `help` ends: it writes the page of the command, or the list of all.
 abbrev pub HelpEnds : Option CommandName → Outside → Outside → Status → Type 0
 HelpEnds command = OneTextEnds (IsHelp command)
 
@@ -18,5 +19,6 @@ HelpEnds command = OneTextEnds (IsHelp command)
 abbrev pub IsVersion : List ℕ → Type 0
 IsVersion text = text ≡ VERSION.now
 
+-- How `version` ends: it writes the version.
 abbrev pub VersionEnds : Outside → Outside → Status → Type 0
 VersionEnds = OneTextEnds IsVersion

@@ -36,7 +36,8 @@ pub record Limited (old new : Streams) (how : LogEnd) : Type 0 where
 abbrev pub LimitOutcome : Streams → Streams → Status → Type 0
 LimitOutcome old new = LogOutcome (Limited old new) (λ answer. ⊥)
 
--- The folder is as it was, and at most one byte more than a log may have was read.
+-- How `limit` ends: its outcome by its status. The folder is as it was, and at most one byte more
+-- than a log may have is read.
 pub record LimitEnds (old new : Outside) (answer : Status) : Type 0 where
   pub outcome : LimitOutcome (streams_of old) (streams_of new) answer
   pub taken : TakesAtMost old.left new.left (MAX_LOG + 1)

@@ -22,5 +22,7 @@ number_text number a =
 unfoldable pub lookup_text : Asmap → Address → List ℕ
 lookup_text m a = number_text (asn (Some m) a) a
 
+-- How `lookup` ends: it writes the AS number and the group that asmap.dat gives the peer, or
+-- reports that asmap.dat is absent or why it is refused. Nothing in the folder changes.
 abbrev pub LookupEnds : Peer → Outside → Outside → Status → Type 0
 LookupEnds peer = FileLineEnds name.Asmap (IsAsmapLine (λ m. lookup_text m peer.addr)) ReportsAsmap

@@ -53,7 +53,8 @@ LookupLinesOutcome old new =
     LogOutcome (LookedUp old.past (streams_of old) (streams_of new))
     (λ answer. LacksMap old.past answer × IsUntouched old new)
 
--- No file is changed, and at most one byte more than a log may have was read.
+-- How `lookup -` ends: its outcome by its status. An absent asmap.dat is reported. No file is
+-- changed, and at most one byte more than a log may have is read.
 pub record LookupLinesEnds (old new : Outside) (answer : Status) : Type 0 where
   pub outcome : LookupLinesOutcome old new answer
   pub absent : ReportsAbsence name.Asmap old.past answer

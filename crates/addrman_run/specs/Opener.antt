@@ -52,7 +52,8 @@ abbrev pub OpenerOutcome : OpenRules → Option (List ℕ) → FileKind → Outs
 OpenerOutcome rules key kind old new =
     LogOutcome (OpenerRan rules key kind old new) (NotOpened key kind.chain old new)
 
--- No file is changed, and at most one byte more than a log may have was read.
+-- How `opener` ends: its outcome by its status. No file is changed, and at most one byte more than
+-- a log may have is read.
 pub record OpenerEnds (rules : OpenRules) (key : Option (List ℕ)) (kind : FileKind)
     (old new : Outside) (answer : Status) : Type 0 where
   pub outcome : OpenerOutcome rules key kind old new answer

@@ -42,6 +42,7 @@ abbrev pub in_option : Option AddrSet → List AddrSet
 in_option None = []
 in_option (Some set) = set ∷ []
 
+-- The sets of the marks that are given.
 abbrev pub sets_of : Marks → List AddrSet
 sets_of marks = flat_map in_option marks.sets
 
@@ -68,5 +69,7 @@ pub record IsPicture (colours : Colours) (chain : Chain) (view : View) (text : L
   pub is : text ≡ picture_for colours chain view
   pub tree : IsTree (codes "svg") text
 
+-- How `picture` ends: it writes the picture of the tables of peers.dat or of a listing, or reports
+-- why they are refused. Nothing in the folder changes.
 abbrev pub PictureEnds : Colours → TablesFrom → Outside → Outside → Status → Type 0
 PictureEnds colours from = ViewTextEnds (IsPicture colours (chain_of from)) from

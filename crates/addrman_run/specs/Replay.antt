@@ -94,6 +94,8 @@ abbrev pub ReplayOutcome : Option (List ℕ) → FileKind → Outside → Outsid
 ReplayOutcome key kind old new =
     LogOutcome (Replayed key kind old new) (NotOpened key kind.chain old new)
 
+-- How `replay` ends: its outcome by its status, and that it takes at most one byte more of the log
+-- than a log may have.
 pub record ReplayEnds (key : Option (List ℕ)) (kind : FileKind)
     (old new : Outside) (answer : Status) : Type 0 where
   pub outcome : ReplayOutcome key kind old new answer

@@ -61,6 +61,7 @@ reason_of (AnchorsRefused fault) = codes "anchors.dat refused: " ++ anchors_faul
 reason_of NoAnchors = codes "anchors.dat is missing"
 reason_of (RawRefused fault) = codes "listing refused: " ++ listing_fault_text fault
 
+-- The line on standard error for a reason.
 abbrev pub line_of : List ℕ → List ℕ
 line_of reason = codes "addrman: " ++ reason ++ codes "\n"
 

@@ -22,6 +22,7 @@ by_of grouping.Network = Network
 abbrev pub IsRisk : Grouping → View → List ℕ → Type 0
 IsRisk by view = IsRiskText view (by_of by) AFTER_RESTART
 
--- how it ends
+-- How `risk source`, `risk peer` and `risk network` end: they write the share of the picks of each
+-- group, or report why the tables are refused. Nothing in the folder changes.
 abbrev pub RiskEnds : Grouping → TablesFrom → Outside → Outside → Status → Type 0
 RiskEnds by from = ViewTextEnds (IsRisk by) from

@@ -87,7 +87,8 @@ RiskLinesOutcome kind old new =
     LogOutcome (RiskedSets kind old.past (streams_of old) (streams_of new))
     (λ answer. LacksTables kind old.past answer × IsUntouched old new)
 
--- No file is changed, and at most one byte more than a log may have was read.
+-- How `risk -` ends: its outcome by its status. An absent peers.dat is reported. No file is
+-- changed, and at most one byte more than a log may have is read.
 pub record RiskLinesEnds (kind : FileKind) (old new : Outside) (answer : Status) : Type 0 where
   pub outcome : RiskLinesOutcome kind old new answer
   pub absent : ReportsNoPeers old.past answer

@@ -23,5 +23,7 @@ abbrev pub ReportsPeers : Chain → Option Past → Status → Type 0
 ReportsPeers chain past (PeersRefused (File fault)) = RefusesPeers chain past fault
 ReportsPeers chain past other = ⊥
 
+-- How `show` ends: it writes the listing of peers.dat, or reports that it is absent or why it is
+-- refused. Nothing in the folder changes.
 abbrev pub ShowEnds : Bool → Chain → Outside → Outside → Status → Type 0
 ShowEnds keyed chain = FileLineEnds name.Peers (IsShowText keyed chain) (ReportsPeers chain)

@@ -20,6 +20,8 @@ abbrev pub IsRawText : FileKind → Option Past → List ℕ → Type 0
 IsRawText kind past text =
     (tables : State) × Opened None kind past tables × IsJsonText (raw_json tables) text
 
+-- How `raw` ends: it writes the slots of the tables as JSON, or reports why the tables are refused.
+-- Nothing in the folder changes.
 abbrev pub RawEnds : FileKind → Outside → Outside → Status → Type 0
 RawEnds kind = TablesTextEnds (IsRawText kind) (ReportsTables kind.chain)
 
@@ -27,6 +29,8 @@ RawEnds kind = TablesTextEnds (IsRawText kind) (ReportsTables kind.chain)
 abbrev pub IsInfoText : View → List ℕ → Type 0
 IsInfoText view = IsJsonText (info_json view)
 
+-- How `info` ends: it writes the numbers of records as JSON, or reports why the tables are refused.
+-- Nothing in the folder changes.
 abbrev pub InfoEnds : TablesFrom → Outside → Outside → Status → Type 0
 InfoEnds = ViewTextEnds IsInfoText
 
@@ -34,5 +38,7 @@ InfoEnds = ViewTextEnds IsInfoText
 abbrev pub IsGroupsText : View → List ℕ → Type 0
 IsGroupsText view = IsJsonText (groups_json view)
 
+-- How `groups` ends: it writes the groups as JSON, or reports why the tables are refused. Nothing
+-- in the folder changes.
 abbrev pub GroupsEnds : TablesFrom → Outside → Outside → Status → Type 0
 GroupsEnds = ViewTextEnds IsGroupsText

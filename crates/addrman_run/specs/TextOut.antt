@@ -20,6 +20,7 @@ TextOut IsText Refuses past old new DiskFault = new ≡ old
 TextOut IsText Refuses past old new Memory = new ≡ old
 TextOut IsText Refuses past old new other = Refuses past other × (new ≡ old)
 
+-- How such a command ends: its text and status, and that log and folder stay as they were.
 pub record TextEnds (IsText : Option Past → List ℕ → Type 0)
     (Refuses : Option Past → Status → Type 0) (old new : Outside) (status : Status) : Type 0 where
   pub text : TextOut IsText Refuses old.past old.written new.written status

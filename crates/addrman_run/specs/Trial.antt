@@ -27,12 +27,14 @@ trial_start = at_start Main (empty_state (places_of Bytes (replicate 32 0) None)
 abbrev pub sizes_text : ℕ → ℕ → List ℕ
 sizes_text lines bytes = codes "trial lines " ++ decimal lines ++ codes " replies " ++ decimal bytes
 
+-- A line with the numbers of records and collisions after it.
 abbrev pub with_counts : List ℕ → Counts → List ℕ
 with_counts text counts =
     text ++ codes " new " ++ decimal counts.new_count
     ++ codes " tried " ++ decimal counts.tried_count
     ++ codes " clashes " ++ decimal counts.clashes
 
+-- A line with the SHA-256 of the replies after it.
 abbrev pub with_sum : List ℕ → List ℕ → List ℕ
 with_sum text sum = text ++ codes " sum " ++ encode_lower sum ++ codes "\n"
 
@@ -49,5 +51,6 @@ pub record IsTrial (start lines : ℕ) (line : List ℕ) : Type 0 where
   pub runs : Run HistoryStep (fresh trial_start) (lines_of (concat (log start lines))) replies last
   pub is : line ≡ trial_text lines replies (counts_of last.now.machine.tables)
 
+-- How `trial` ends: it writes the line about the run over the generated log.
 abbrev pub TrialEnds : ℕ → ℕ → Outside → Outside → Status → Type 0
 TrialEnds start lines = OneTextEnds (IsTrial start lines)

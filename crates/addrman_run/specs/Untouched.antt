@@ -1,4 +1,5 @@
--- What a run leaves as it was, by what the arguments ask for.
+-- What a run leaves as it was, by what the arguments ask for. That no call was made is an equation
+-- of an object that counts its calls.
 use Rattle.std.specs.Prelude.{◌≡◌, ℕ, List, ⊤}
 use Rattle.arguments.specs.Table.{Asks}
 use Rattle.arguments.specs.declared.request.Request.{Request}

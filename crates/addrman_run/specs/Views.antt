@@ -33,6 +33,7 @@ ReportsView (Listing chain) past answer = ReportsListing past answer
 abbrev pub IsViewText : (View → List ℕ → Type 0) → TablesFrom → Option Past → List ℕ → Type 0
 IsViewText IsText from past text = (view : View) × IsView from past view × IsText view text
 
+-- How a command ends that writes a text of the tables of peers.dat or of a listing.
 abbrev pub ViewTextEnds : (View → List ℕ → Type 0) → TablesFrom → Outside → Outside → Status →
     Type 0
 ViewTextEnds IsText from = TablesTextEnds (IsViewText IsText from) (ReportsView from)

@@ -1,3 +1,5 @@
+//! `address`: the lines about one address (`network`, `class`, `asn`, `group`).
+
 ghost use Rattle.std.specs.Prelude.{◌≡◌, ◌++◌, OnOk};
 ghost use Rattle.log_run.specs.Counts.{IsCounted};
 ghost use Rattle.placing.specs.Inside.{map_of};

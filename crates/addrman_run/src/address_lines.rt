@@ -1,3 +1,5 @@
+//! `address -`: the lines about the address on each line of the input.
+
 ghost use Rattle.std.specs.Prelude.{◌≡◌, ◌+◌};
 ghost use Rattle.host_io.specs.Outside.{outside};
 ghost use Rattle.host_io.specs.Reading.{TakesAtMost};

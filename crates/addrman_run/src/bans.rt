@@ -1,3 +1,6 @@
+//! `ban`, `unban`, `banned` and `bans`: loads `banlist.json`, changes it and saves it
+//! (`BanCommand`).
+
 ghost use Rattle.std.specs.Prelude.{◌≡◌, ℕ, List, Err, Some, IfOk, IfErr, ⊤};
 ghost use Rattle.ban_list.specs.BanFile.{IsListFile};
 ghost use Rattle.ban_list.specs.Bans.{ban_of};

@@ -1,3 +1,5 @@
+//! `check`: the size of `asmap.dat`.
+
 ghost use Rattle.std.specs.Prelude.{IfOk, ◌≡◌};
 ghost use Rattle.placing.specs.Inside.{asmap_of};
 ghost use Rattle.addrman_run.specs.Asmaps.{IsAsmapLine, ReportsAsmap};

@@ -1,3 +1,5 @@
+//! `compile`: `prefixes.txt` into `asmap.dat`, and the line with rows, bits and bytes.
+
 ghost use Rattle.std.specs.Prelude.{◌≡◌, ◌≤◌, ◌++◌, List, Option, codes, decimal, length, IfOk, IfErr};
 ghost use Rattle.asmap_vm.specs.Code.{code};
 ghost use Rattle.asmap_compile.specs.Compiled.{compiled};

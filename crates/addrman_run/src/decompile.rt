@@ -1,3 +1,5 @@
+//! `decompile` writes the rows of `asmap.dat`.
+
 ghost use Rattle.std.specs.Prelude.{◌≡◌, ◌≢◌, ◌≤◌, Option, length};
 ghost use Rattle.bit_code.specs.declared.bits.TheConstants.{MAX_ASMAP};
 ghost use Rattle.host_io.specs.Past.{Past};

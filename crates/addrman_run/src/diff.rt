@@ -1,3 +1,5 @@
+//! `diff` loads `asmap.old` and `asmap.dat` and compares them.
+
 ghost use Rattle.std.specs.Prelude.{◌≡◌, ◌⊎◌, ◌<◌, length, None, IfOk, IfErr, IfSome, Err, option_map};
 ghost use Rattle.asmap_vm.specs.Held.{tree_held};
 ghost use Rattle.host_io.specs.Past.{files_of};

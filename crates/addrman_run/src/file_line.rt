@@ -1,3 +1,5 @@
+//! The trait `FileLine`, a command that loads one file and writes a text about it; and `Refusal`.
+
 ghost use Rattle.std.specs.Prelude.{◌≡◌, ◌≤◌, ℕ, List, Option, length, IfOk, Err};
 ghost use Rattle.anchors.specs.declared.fault.AnchorsFault.{AnchorsFault};
 ghost use Rattle.asmap_vm.specs.declared.fault.CodeFault.{CodeFault};

@@ -1,3 +1,6 @@
+//! `from-raw` makes `peers.dat` of the listing on the input, and writes the line with records and
+//! bytes.
+
 ghost use Rattle.std.specs.Prelude.{◌≡◌, ◌+◌, ◌++◌, Err, IfOk, IfErr, codes, decimal};
 ghost use Rattle.host_io.specs.Outside.{outside};
 ghost use Rattle.host_io.specs.Past.{Always};

@@ -1,3 +1,5 @@
+//! `gen` writes a generated log in pieces.
+
 ghost use Rattle.std.specs.Prelude.{◌≡◌, ◌≢◌, ◌≤◌, ◌++◌, List, ℕ, OnOk, OnErr};
 ghost use Rattle.gen_load.specs.declared.generated.TheConstants.{MAX_LINES};
 ghost use Rattle.host_io.specs.Faults.{Rose};

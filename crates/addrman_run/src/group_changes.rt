@@ -1,3 +1,5 @@
+//! The records of `peers.dat` whose group another asmap changes: the last lines of `diff`.
+
 ghost use Rattle.std.specs.Prelude.{◌≡◌, ◌++◌, IfOk, OnOk};
 ghost use Rattle.placing.specs.Inside.{asmap_of};
 ghost use Rattle.addrman_run.specs.GroupChanges.{change_line, change_lines, changes_group, changes_of, group_changes_text, groups_text, totals_line};

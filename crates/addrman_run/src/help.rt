@@ -1,3 +1,5 @@
+//! `help` and `version`, with `VERSION`.
+
 ghost use Rattle.std.specs.Prelude.{◌≢◌};
 ghost use Rattle.addrman_run.specs.Help.{IsHelp, IsVersion};
 ghost use Rattle.addrman_run.specs.OneText.{OneText};

@@ -1,3 +1,6 @@
+//! `Input`: which files are loaded whole, their limits, and the status if one is too large or
+//! absent.
+
 ghost use Rattle.std.specs.Prelude.{◌≡◌, ◌⊎◌, Ok, Err, None, IfOk, IfSome, IfErr, MatchOption};
 ghost use Rattle.host_io.specs.Past.{files_of};
 ghost use Rattle.host_io.specs.PerName.{under};

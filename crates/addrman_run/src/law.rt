@@ -1,3 +1,5 @@
+//! Laws: folders open once, the time of `risk`, and the order of refusals of `diff`.
+
 ghost use Rattle.std.specs.Prelude.{◌≡◌, ◌<◌, ℕ, List, All, Option, IfSome};
 ghost use Rattle.host_io.specs.Disk.{files_on};
 ghost use Rattle.host_io.specs.Past.{Past};

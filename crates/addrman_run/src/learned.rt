@@ -1,3 +1,5 @@
+//! `Learned` and `SumFit`: what a run found out for messages to people.
+
 use ban_list::BanRule;
 use host_io::Bytes;
 use std::alloc::Global;

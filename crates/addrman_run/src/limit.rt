@@ -1,3 +1,5 @@
+//! `limit`: the run of `LimitLog` over the input.
+
 ghost use Rattle.std.specs.Prelude.{◌≢◌, ◌+◌};
 ghost use Rattle.host_io.specs.Reading.{TakesAtMost};
 ghost use Rattle.log_run.specs.declared.sizes.TheConstants.{MAX_LOG};

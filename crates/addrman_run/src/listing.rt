@@ -1,3 +1,6 @@
+//! `open_listing`: the view of a listing instead of `peers.dat`, under the asmap, without a key
+//! (`NO_KEY`).
+
 ghost use Rattle.std.specs.Prelude.{◌≡◌, ◌⊎◌, Err, IfOk, IfErr, map};
 ghost use Rattle.host_io.specs.declared.name.Name.TheVariants as name;
 ghost use Rattle.log_run.specs.Counts.{IsCounted};

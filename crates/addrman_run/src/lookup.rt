@@ -1,3 +1,5 @@
+//! `lookup`: the line with AS number and group.
+
 ghost use Rattle.std.specs.Prelude.{◌≡◌, ◌++◌, OnOk};
 ghost use Rattle.placing.specs.Inside.{asmap_of};
 ghost use Rattle.addrman_run.specs.Asmaps.{IsAsmapLine, ReportsAsmap};

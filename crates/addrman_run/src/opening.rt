@@ -1,3 +1,6 @@
+//! Opens tables: loads and checks the asmap and `peers.dat` and restores the tables, or makes empty
+//! ones by the key.
+
 ghost use Rattle.std.specs.Prelude.{◌≡◌, ◌⊎◌, ◌≤◌, ℕ, List, None, Some, Ok, Err, IfOk, IfErr, IfSome, length};
 ghost use Rattle.asmap_vm.specs.Code.{Tree, IsSaneFile};
 ghost use Rattle.asmap_vm.specs.declared.fault.CodeFault.{CodeFault};

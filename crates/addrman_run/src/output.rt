@@ -1,3 +1,5 @@
+//! Writes one line; or saves a file and then writes the line.
+
 ghost use Rattle.std.specs.Prelude.{◌≢◌};
 ghost use Rattle.host_io.specs.Past.{Always};
 ghost use Rattle.save_store.specs.Saves.{PublishesOrNot};

@@ -1,3 +1,5 @@
+//! `PeersFault`: why `peers.dat` is refused, which is its fault or a duplicate.
+
 ghost use Rattle.std.specs.Prelude.{◌≡◌};
 ghost use Rattle.addrman_run.specs.FaultTexts.{peers_fault_text};
 

@@ -1,3 +1,5 @@
+//! `picture` opens tables, draws them and writes the picture.
+
 ghost use Rattle.std.specs.Prelude.{◌≡◌, ◌≤◌, ◌++◌, All, IfOk, OnOk, length};
 ghost use Rattle.std.specs.List.{flat_map};
 ghost use Rattle.arguments.specs.Table.{AreProperSets, IsProperRequest};

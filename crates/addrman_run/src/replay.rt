@@ -1,3 +1,5 @@
+//! `replay`: the run of a `Session` over the input.
+
 ghost use Rattle.host_io.specs.Outside.{outside};
 ghost use Rattle.host_io.specs.Reading.{TakesAtMost};
 ghost use Rattle.std.specs.Prelude.{◌+◌};

@@ -1,3 +1,5 @@
+//! The exit codes, and the line for each status on standard error (`status_line`).
+
 ghost use Rattle.std.specs.Prelude.{◌≡◌, ◌++◌, codes, decimal, IfOk, OnOk, OnErr};
 ghost use Rattle.grammar.specs.FaultTexts.{line_fault_text};
 ghost use Rattle.raw_file.specs.FaultTexts.{listing_fault_text};

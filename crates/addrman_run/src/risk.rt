@@ -1,3 +1,5 @@
+//! `risk`: `RiskText`, the parts of groups as a text of a view; and `AFTER_RESTART`.
+
 ghost use Rattle.std.specs.Prelude.{◌≡◌};
 ghost use Rattle.addrman_run.specs.Risk.{by_of};
 

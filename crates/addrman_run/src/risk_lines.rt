@@ -1,3 +1,10 @@
+//! `risk -`: the sets that the lines of the input name, then their parts.
+//!
+//! A set has the addresses of peers and not of sources, as one asks of an operator's own ranges;
+//! whose word the node takes is for `risk source`. Nothing is printed before the log ends, since
+//! the last line is that of all sets, and a line with a fault leaves no numbers that would be taken
+//! for the whole.
+
 ghost use Rattle.std.specs.Prelude.{◌≡◌, ◌≢◌, ◌+◌, [], All, IfOk, true, false};
 ghost use Rattle.host_io.specs.Outside.{outside};
 ghost use Rattle.host_io.specs.Reading.{TakesAtMost};

@@ -1,3 +1,5 @@
+//! `show`: the listing of `peers.dat`.
+
 ghost use Rattle.addrman_run.specs.Show.{IsShowText, ReportsPeers};
 ghost use Rattle.addrman_run.specs.declared.input.Input.TheVariants as input;
 

@@ -1,3 +1,5 @@
+//! `Status`: how a run ended; the status of a log by its `LogEnd`.
+
 ghost use Rattle.std.specs.Prelude.{◌≡◌};
 ghost use Rattle.addrman_run.specs.Inside.{status_of};
 

@@ -1,3 +1,5 @@
+//! `TablesFault`: why `prefixes.txt` is refused.
+
 ghost use Rattle.std.specs.Prelude.{◌≡◌, IfOk};
 ghost use Rattle.addrman_run.specs.FaultTexts.{tables_fault_text};
 

@@ -1,3 +1,5 @@
+//! `raw`, `info` and `groups` open tables and write JSON.
+
 ghost use Rattle.std.specs.Prelude.{◌≡◌, IfOk};
 ghost use Rattle.log_run.specs.Counts.{IsCounted};
 ghost use Rattle.node_json.specs.Raw.{raw_json};

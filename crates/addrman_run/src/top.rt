@@ -1,3 +1,5 @@
+//! `run` and `run_learning`, and which request goes to which file.
+
 ghost use Rattle.std.specs.Prelude.{◌≡◌, ◌≢◌, map, string_bytes};
 ghost use Rattle.host_io.specs.Outside.{outside};
 ghost use Rattle.arguments.specs.Table.{Asks, IsProperRequest};

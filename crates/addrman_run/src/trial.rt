@@ -1,3 +1,5 @@
+//! `trial` carries out a generated log and hashes its replies.
+
 ghost use Rattle.std.specs.Prelude.{◌≡◌, ◌≢◌, ◌<◌, ◌≤◌, ◌+◌, ◌^◌, ◌++◌, ℕ, List, length, map, None, IfOk, OnOk};
 ghost use Rattle.addr_codecs.specs.declared.message.TheConstants.{MAX_ENTRIES};
 ghost use Rattle.gen_load.specs.Spelling.{without_feed};

@@ -1,3 +1,5 @@
+//! The line that `trial` prints.
+
 ghost use Rattle.std.specs.Prelude.{◌≡◌, IfOk, OnOk};
 ghost use Rattle.peer_rec.specs.declared.answers.Counts.{Counts};
 ghost use Rattle.addrman_run.specs.Trial.{sizes_text, with_counts, with_sum};

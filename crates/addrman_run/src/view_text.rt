@@ -1,3 +1,5 @@
+//! The trait `ViewText`: a text about tables or about a listing (`write_view`).
+
 ghost use Rattle.std.specs.Prelude.{◌≡◌, ℕ, List, IfOk};
 ghost use Rattle.arguments.specs.declared.tables_from.TablesFrom.TheVariants.{File, Listing};
 ghost use Rattle.log_run.specs.Counts.{IsCounted};

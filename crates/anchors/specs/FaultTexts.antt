@@ -3,6 +3,7 @@ use Rattle.std.specs.Prelude.{ℕ, List, codes}
 use Rattle.anchors.specs.declared.fault.AnchorsFault.{AnchorsFault}
 use Rattle.anchors.specs.declared.fault.AnchorsFault.TheVariants.{Truncated, BadMagic, BadSum, Count, TooMany, Anchor, Trailing, TooLarge, Memory}
 
+-- The word of a fault.
 abbrev pub anchors_fault_text : AnchorsFault → List ℕ
 anchors_fault_text Truncated = codes "truncated"
 anchors_fault_text BadMagic = codes "bad-magic"

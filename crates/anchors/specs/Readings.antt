@@ -16,11 +16,14 @@ use Rattle.anchors.specs.declared.read.TheConstants.{MAX_ANCHORS}
 abbrev pub Read : Type 0 → Type 0
 Read A = List ℕ → Result (A × List ℕ) AnchorsFault
 
+-- Reads the layout of an anchor: the version of the client that wrote it, of which only the high
+-- bits count.
 unfoldable pub layout_at : ℕ → Read ℕ
 layout_at i =
     then_at (map_fault_at (of_number i) (le_at w32))
     (λ n. check_at (n / 2 ^ 19 == 2 ^ 10) (Anchor i cause.Version) n)
 
+-- Reads an anchor: layout, time, services, address and port.
 unfoldable pub anchor_at : ℕ → Read Entry
 anchor_at i =
     then_at (layout_at i) (λ _.
@@ -30,11 +33,13 @@ anchor_at i =
     then_at (map_fault_at (of_number i) (be_at w16)) (λ port.
     value_at (entry time services port (or_zero addr)))))))
 
+-- Reads the number of anchors, up to a limit.
 unfoldable pub count_at : Read ℕ
 count_at =
     then_at (map_fault_at of_count compact_at)
     (λ n. check_at (nat_le n MAX_ANCHORS) (TooMany n) n)
 
+-- Reads what is between the magic and the checksum of the file.
 unfoldable pub body_at : Read (List Entry)
 body_at = then_at count_at (λ count. times_at 0 count anchor_at)
 

@@ -1,4 +1,5 @@
 -- How anchors.dat is written: each number and each length in the fewest bytes that it fits.
+-- `DumpAnchors` in addrdb.cpp of Bitcoin Core writes the same.
 use Rattle.std.specs.Prelude.{ℕ, List, ◌++◌, length}
 use Rattle.std.specs.List.{flat_map}
 use Rattle.std.specs.Int.{w16, w32, to_le_bytes, to_be_bytes}

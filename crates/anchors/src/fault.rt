@@ -1,3 +1,5 @@
+//! `AnchorsFault` and `AnchorCause`: the first fault and its printed word.
+
 ghost use Rattle.std.specs.Prelude.{◌≡◌};
 ghost use Rattle.anchors.specs.FaultTexts.{anchors_fault_text};
 ghost use Rattle.anchors.specs.Faults.{of_address, of_count, of_number};

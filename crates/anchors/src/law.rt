@@ -1,3 +1,5 @@
+//! Laws: the limits as numbers, and that a file has one meaning.
+
 ghost use Rattle.std.specs.Prelude.{◌≡◌, ℕ, ◌<◌, List, All, length};
 ghost use Rattle.anchors.specs.Layout.{HasOneMeaning};
 ghost use Rattle.anchors.specs.declared.read.TheConstants.{MAX_ANCHORS, MAX_FILE};

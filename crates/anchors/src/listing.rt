@@ -1,3 +1,5 @@
+//! `anchors_text`, the output of `show --anchors`.
+
 ghost use Rattle.std.specs.Prelude.{◌≡◌, ◌++◌, IfOk, OnOk};
 ghost use Rattle.anchors.specs.Listing.{anchor_line, anchors_text};
 

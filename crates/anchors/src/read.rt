@@ -1,3 +1,6 @@
+//! `read_file`: magic, checksum and one anchor after another; with `Anchors`, `MAX_ANCHORS` and
+//! `MAX_FILE`.
+
 ghost use Rattle.std.specs.Prelude.{◌≡◌, ◌≢◌, ◌≤◌, List, length, vec_len, bytes_eq, IfOk, IfErr, Ok, Err, MatchResult, None, Some};
 ghost use Rattle.std.specs.Int.{w16, w32};
 ghost use Rattle.net_addr.specs.OldForm.{from_v1};

@@ -1,3 +1,5 @@
+//! `write_file` of anchors, for callers of the library; no command writes such a file.
+
 ghost use Rattle.std.specs.Prelude.{◌≡◌, ◌≤◌, ◌<◌, ◌^◌, ◌++◌, length, All, IfOk, OnOk};
 ghost use Rattle.addr_codecs.specs.Entries.{IsEntry};
 ghost use Rattle.anchors.specs.Layout.{HasFileFault, IsFile};

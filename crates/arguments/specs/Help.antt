@@ -16,6 +16,7 @@ pub record Page : Type 0 where
 abbrev pub Text : Type 0
 Text = record { now : List ℕ }
 
+-- The page with these three texts.
 abbrev pub page_in : Text × Text × Text → Page
 page_in texts = record { form = texts.0.now; sentence = texts.1.now; details = texts.2.now }
 

@@ -56,6 +56,7 @@ abbrev pub chain_option : ChainOption → List ℕ
 chain_option Net = codes "--net"
 chain_option Magic = codes "--magic"
 
+-- The value of such an option names a chain.
 abbrev pub IsChainValue : ChainOption → List ℕ → Chain → Type 0
 IsChainValue Net value chain = IsName value chain
 IsChainValue Magic value chain = IsMagic value chain

@@ -187,6 +187,7 @@ HasNoValues form texts = (values : Values) → ¬ Reads form texts values
 
 -- THE TABLE
 
+-- The form of the arguments after the name of each command.
 abbrev pub form_of : CommandName → Form
 form_of name.Replay = Opening
 form_of name.Opener = Outgoing

@@ -1,3 +1,5 @@
+//! The text of an address, the only argument of `address`.
+
 ghost use Rattle.std.specs.Prelude.{◌≡◌, map, string_bytes, Some, IfSome};
 ghost use Rattle.arguments.specs.Table.{IsAddressIn};
 ghost use Rattle.net_addr.specs.Address.{Address};

@@ -1,3 +1,5 @@
+//! The arguments of `ban` and `unban`: `--core`, a subnet and two times.
+
 ghost use Rattle.std.specs.Prelude.{◌≡◌, ◌≢◌, ◌<◌, ◌≤◌, ℕ, List, [], ◌∷◌, decimal, length, map, string_bytes, None, Some, IfSome, IfNone};
 ghost use Rattle.ban_list.specs.BanFile.{max_time};
 ghost use Rattle.ban_list.specs.SubnetText.{IsSubnetTextBy};

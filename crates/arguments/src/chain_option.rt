@@ -1,3 +1,5 @@
+//! `ChainOption`: `--net` with a name, or `--magic` with 8 hexadecimal digits.
+
 ghost use Rattle.std.specs.Prelude.{◌≡◌, ℕ, List, length, Ok, Some, IfSome};
 ghost use Rattle.arguments.specs.Options.{IsChainValue, IsMagic, IsName};
 ghost use Rattle.hex.specs.Hex.{decode_of};

@@ -1,3 +1,5 @@
+//! `Colouring`: the values of `picture --by`.
+
 ghost use Rattle.arguments.specs.Options.{colouring_word};
 
 use grammar::Keyword;

@@ -1,3 +1,5 @@
+//! `Colours`, what comes after `picture`: `--by`, or `--mark` with sets, and a chain.
+
 ghost use Rattle.std.specs.Prelude.{◌≡◌, ℕ, List, codes, map, string_bytes, Some, IfSome, IfNone};
 ghost use Rattle.arguments.specs.Inside.{Begins};
 ghost use Rattle.arguments.specs.Options.{HasChain, IsAfterColouring, IsMarked};

@@ -1,3 +1,5 @@
+//! `--help`, `-h` and `--version` as commands, and the argument after `help`.
+
 ghost use Rattle.std.specs.Prelude.{◌≡◌, map, string_bytes, IfSome, IfNone};
 ghost use Rattle.arguments.specs.Table.{HasNoValues, OfCommand, Reads, name_of, plain_word, request_values};
 ghost use Rattle.arguments.specs.declared.name.CommandName.TheVariants as name;

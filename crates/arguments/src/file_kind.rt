@@ -1,3 +1,5 @@
+//! `FileKind`: `--core` and the chain together, for each command that reads `peers.dat`.
+
 ghost use Rattle.std.specs.Prelude.{◌≡◌, ◌≢◌, ℕ, Bool, List, ◌∷◌, codes, map, string_bytes, IfSome, IfNone};
 ghost use Rattle.arguments.specs.Options.{HasRule, IsAfterColouring, IsAfterDash, IsAfterGrouping, IsFileOptions, IsListingOptions, IsNet, IsOpeningOptions, IsPeersOption};
 ghost use Rattle.arguments.specs.Table.{HasNoValues, Keyed, Network, Opening, Reads, Records, name_of, request_values};

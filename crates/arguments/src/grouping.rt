@@ -1,3 +1,5 @@
+//! `Grouping`: what makes records one group for `risk`, which is `source`, `peer` or `network`.
+
 ghost use Rattle.std.specs.Prelude.{◌≡◌, map, string_bytes, Some, IfSome};
 ghost use Rattle.arguments.specs.Options.{IsAfterGrouping, grouping_word};
 ghost use Rattle.arguments.specs.declared.grouping.Grouping.{Grouping};

@@ -1,3 +1,5 @@
+//! `help_text` puts together the list of commands, or a page.
+
 ghost use Rattle.std.specs.Prelude.{◌≡◌, ◌++◌, None, IfOk, OnOk};
 ghost use Rattle.std.specs.List.{flat_map};
 ghost use Rattle.arguments.specs.Help.{entry_text, help_text, page_text};

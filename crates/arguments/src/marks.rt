@@ -1,3 +1,5 @@
+//! `Marks`: one to six sets of addresses (`MAX_MARKS`) that a picture marks.
+
 ghost use Rattle.std.specs.Prelude.{◌≡◌, map, string_bytes, IfSome, IfNone};
 ghost use Rattle.arguments.specs.Options.{IsMarks};
 ghost use Rattle.arguments.specs.declared.marks.Marks.{Marks};

@@ -1,3 +1,5 @@
+//! `CommandName` and `NAMES`: the words of the commands, and the page of each.
+
 ghost use Rattle.std.specs.Prelude.{◌≡◌};
 ghost use Rattle.arguments.specs.Help.{page_of};
 ghost use Rattle.arguments.specs.Table.{command_word};

@@ -1,3 +1,5 @@
+//! `read_opener`: `--exempt`, `--services` and `--skip-bad-ports` of `opener`.
+
 ghost use Rattle.std.specs.Prelude.{◌≡◌, ◌≢◌, ℕ, List, [], ◌∷◌, false, codes, map, string_bytes, IfSome, IfNone};
 ghost use Rattle.grammar.specs.Fields.{Nets, TheNets, TheNumber, u64_field};
 ghost use Rattle.arguments.specs.Inside.{Begins, HasNoValue};

@@ -1,3 +1,6 @@
+//! Options and their values: `--key`, `--net`, `--no-key`, `--peers` and `--anchors`, with `=` or a
+//! space.
+
 ghost use Rattle.std.specs.Prelude.{◌≡◌, ◌≢◌, ℕ, List, [], ◌∷◌, ◌++◌, Bool, false, codes, map, string_bytes, Option, Some, IfSome, IfNone};
 ghost use Rattle.std.specs.Option.{option_map};
 ghost use Rattle.arguments.specs.Inside.{Begins};

@@ -1,3 +1,5 @@
+//! `read_request` reads the arguments after the name of each command.
+
 ghost use Rattle.std.specs.Prelude.{◌≡◌, ◌↔◌, [], ◌∷◌, codes, length, map, string_bytes, Some, IfSome, IfNone, IsTrue};
 ghost use Rattle.arguments.specs.Table.{AddressOrLines, Asks, Fields, HasNoValues, IsProperRequest, Listing, PeerOrLines, Reads, ForBans, TheBanFields, TheFields, form_of, name_of, request_values};
 ghost use Rattle.arguments.specs.declared.name.CommandName.TheVariants as name;

@@ -1,3 +1,5 @@
+//! `Request`: an enum with one variant for each thing that can be asked.
+
 use crate::{Colours, CommandName, FileKind, Grouping, TablesFrom};
 use ban_list::{BanRule, Subnet};
 use net_addr::{NetAddr, Peer};

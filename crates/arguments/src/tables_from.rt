@@ -1,3 +1,6 @@
+//! `TablesFrom`: `--raw -`, `--core` or neither, which says whether the tables are those of a
+//! listing or of `peers.dat`.
+
 ghost use Rattle.std.specs.Prelude.{◌≡◌, ℕ, List, true, false, map, string_bytes, IfSome, IfNone};
 ghost use Rattle.arguments.specs.Options.{IsNet, IsRaw, IsTables};
 ghost use Rattle.arguments.specs.Table.{Coloured, Grouped, HasNoValues, Reads, Tables, name_of, request_values};

@@ -24,6 +24,7 @@ pub record IsSaneAhead (a : Ahead) : Type 0 where
   pub short : length a.path ≤ 128
   pub sane : IsSaneWithin (128 - length a.path) a.tree
 
+-- All parts that are still to be read are sane.
 abbrev pub AreSane : List Ahead → Type 0
 AreSane [] = ⊤
 AreSane (a ∷ more) = IsSaneAhead a × AreSane more

@@ -19,13 +19,15 @@ pub record Gives (bits : List Bool) (at : ℕ) (parts : List Part)
 abbrev pub whole_part : Part
 whole_part = record { bits = 0; len = 0; default = 0; last = 0 }
 
--- the sides of a jump and the part after a match
+-- The side of a jump for a zero bit.
 abbrev pub zero_side : Part → Part
 zero_side part = record part { len = part.len + 1 }
 
+-- The side of a jump for a one bit.
 abbrev pub one_side : Part → Part
 one_side part = record part { bits = part.bits + 2 ^ (127 - part.len); len = part.len + 1 }
 
+-- The part after a match, whose bits are those of the number below its leading one.
 abbrev pub after_match : Part → ℕ → Part
 after_match part number = record {
   bits = part.bits + (number - 2 ^ match_size number) * 2 ^ (128 - (part.len + match_size number));

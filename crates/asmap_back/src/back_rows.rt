@@ -1,3 +1,5 @@
+//! `BackRows`: an iterator over the rows of an asmap, which takes no memory.
+
 ghost use Rattle.std.specs.Prelude.{◌≡◌, ◌<◌, ◌∷◌, [], List, MatchOption, OnSome};
 ghost use Rattle.asmap_vm.specs.Held.{tree_held};
 ghost use Rattle.prefix_table.specs.declared.rows.Row.{Row};

@@ -1,3 +1,5 @@
+//! `decompile` into a `Table`, and `fits_table`.
+
 ghost use Rattle.std.specs.Prelude.{◌≡◌, ℕ, ◌⊎◌, ◌+◌, ◌^◌, ◌<◌, ◌≤◌, Bool, List, length, IfOk, IfErr, IsErrAnd, Err, true, false};
 ghost use Rattle.bit_code.specs.Coder.{number_of};
 ghost use Rattle.asmap_vm.specs.Code.{meaning, asn_of};

@@ -1,7 +1,9 @@
+//! `BackFault`: there are too many rows, or memory ran out.
+
 ghost use Rattle.std.specs.Prelude.{◌≡◌};
 ghost use Rattle.asmap_back.specs.declared.fault.BackFault.TheVariants as fault;
 
-use prefix_table::Memory as TableMemory;
+use memory::Memory;
 use std::alloc::AllocError;
 
 /// Why an asmap is not turned back into a table.
@@ -24,10 +26,10 @@ impl From<AllocError> for BackFault {
     }
 }
 
-impl From<TableMemory> for BackFault {
+impl From<Memory> for BackFault {
     ghost from_gives = { λ _ e. e ≡ fault.Memory };
 
-    fn from(_: TableMemory) -> BackFault {
+    fn from(_: Memory) -> BackFault {
         BackFault::Memory
     }
 }

@@ -1,3 +1,5 @@
+//! `Part`: a part of the tree with its path, its default and its sides.
+
 ghost use Rattle.std.specs.Prelude.{◌≡◌, ◌+◌, ◌-◌, ◌*◌, ◌^◌, ◌<◌, ◌≤◌};
 ghost use Rattle.asmap_vm.specs.Matches.{match_size};
 ghost use Rattle.asmap_back.specs.Inside.{whole_part, zero_side, one_side, after_match, row_of};

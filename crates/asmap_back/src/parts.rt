@@ -1,3 +1,5 @@
+//! `PartsLeft`: the stack of parts that are still to be read.
+
 ghost use Rattle.std.specs.Prelude.{◌≡◌, ◌<◌, [], ◌∷◌, length, MatchOption};
 ghost use Rattle.asmap_back.specs.Inside.{whole_part};
 ghost use Rattle.asmap_back.specs.declared.parts.TheConstants.{DEPTH};

@@ -1,3 +1,6 @@
+//! `Reading` reads one instruction after another, and gives a row unless the one above says the
+//! same.
+
 ghost use Rattle.std.specs.Prelude.{◌≡◌, ◌<◌, ◌≤◌, ◌∷◌, [], List, length, option_to_list};
 ghost use Rattle.prefix_table.specs.declared.rows.Row.{Row};
 ghost use Rattle.asmap_back.specs.Back.{unless_same};

@@ -1,3 +1,5 @@
+//! `write_rows` writes the rows as lines to an output, in pieces.
+
 ghost use Rattle.std.specs.Prelude.{◌≡◌, ◌≤◌, ◌++◌, ℕ, List, OnOk, OnErr};
 ghost use Rattle.host_io.specs.Faults.{Rose};
 ghost use Rattle.host_io.specs.Writing.{Appended, AppendedPart};

@@ -44,6 +44,7 @@ onward_by true false = Single false
 onward_by false true = Single true
 onward_by true true = Forked
 
+-- Where the rows below a path go on.
 abbrev pub onward : List Row → List Bool → Onward
 onward rows p = onward_by (goes_on rows p false) (goes_on rows p true)
 

@@ -1,3 +1,5 @@
+//! `Compiled`: the bytes of the file and the number of its bits.
+
 use std::marker::Model;
 
 /// The file that a table compiles to. Contracts see its bytes and the bits of its code.

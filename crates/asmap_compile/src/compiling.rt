@@ -1,3 +1,5 @@
+//! `compile` and `compile_in_place`, with `MAX_BITS`.
+
 ghost use Rattle.std.specs.Prelude.{◌≡◌, ◌↔◌, ℕ, ◌*◌, ◌^◌, ◌<◌, ◌≤◌, Bool, List, length, IfOk, Err};
 ghost use Rattle.bit_code.specs.Coder.{number_of};
 ghost use Rattle.asmap_vm.specs.Code.{IsSaneFile, code, meaning, asn_of};

@@ -1,8 +1,10 @@
+//! `CompileFault`: the table is empty, the file would be too large, or memory ran out.
+
 ghost use Rattle.std.specs.Prelude.{◌≡◌};
 ghost use Rattle.asmap_compile.specs.FaultTexts.{compile_fault_text};
 ghost use Rattle.asmap_compile.specs.declared.fault.CompileFault.{CompileFault};
 
-use bit_code::Memory as BitMemory;
+use memory::Memory;
 use std::alloc::AllocError;
 
 /// Why a table isn't compiled.
@@ -27,10 +29,10 @@ impl From<AllocError> for CompileFault {
     }
 }
 
-impl From<BitMemory> for CompileFault {
+impl From<Memory> for CompileFault {
     ghost from_gives = { λ _ fault. fault ≡ CompileFault.Memory };
 
-    fn from(_: BitMemory) -> CompileFault {
+    fn from(_: Memory) -> CompileFault {
         CompileFault::Memory
     }
 }

@@ -1,3 +1,5 @@
+//! Puts a return, a jump, a default or matches before the bits that are there.
+
 ghost use Rattle.std.specs.Prelude.{◌≡◌, ℕ, ◌+◌, ◌-◌, ◌*◌, ◌<◌, ◌≤◌, Bool, List, ◌∷◌, ◌++◌, true, length, OnOk};
 ghost use Rattle.bit_code.specs.Coder.{HasValue, spelling, number_of};
 ghost use Rattle.asmap_vm.specs.Code.{Tree, code};

@@ -1,3 +1,5 @@
+//! `kept_of` drops the rows that say what a shorter prefix already says.
+
 ghost use Rattle.std.specs.Prelude.{◌≡◌, ℕ, ◌-◌, ◌<◌, ◌≤◌, true, false, length, IfOk, slice_index_or};
 ghost use Rattle.prefix_table.specs.Rows.{IsTable, row_covers, first_bits};
 ghost use Rattle.prefix_table.specs.declared.rows.Row.{Row};

@@ -1,3 +1,5 @@
+//! The rows below a path: those that are longer, and where the rows with a one bit begin.
+
 ghost use Rattle.std.specs.Prelude.{◌≡◌, ℕ, ◌<◌, ◌≤◌, Bool, true, false, List, length};
 ghost use Rattle.std.specs.List.Sorted.{IsPartitionPoint, IsPartitionedBy};
 ghost use Rattle.bit_code.specs.Coder.{has_bit};

@@ -1,3 +1,5 @@
+//! `put_tree`, the recursion over paths that writes the code.
+
 ghost use Rattle.std.specs.Prelude.{◌≡◌, ℕ, ◌+◌, ◌-◌, ◌<◌, Bool, List, ◌++◌, OnOk};
 ghost use Rattle.asmap_vm.specs.Code.{code};
 ghost use Rattle.prefix_table.specs.declared.rows.Row.{Row};

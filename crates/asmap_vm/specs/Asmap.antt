@@ -9,6 +9,7 @@ pub record Asmap : Type 0 where
   pub file : List ℕ
   pub tree : Tree
 
+-- The file of the asmap is the sane file of its tree.
 abbrev pub IsAsmap : Asmap → Type 0
 IsAsmap m = IsSaneFile m.tree m.file
 

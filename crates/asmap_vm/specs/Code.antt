@@ -16,16 +16,19 @@ pub data Tree : Type 0 where
   Match : (wanted : List Bool) (next : Tree) → Tree
   Default : (asn : ℕ) (next : Tree) → Tree
 
--- the numbers of the four kinds of instruction
+-- The number of a return (`Instruction::RETURN` in util/asmap.cpp).
 abbrev pub return_kind : ℕ
 return_kind = 0
 
+-- The number of a jump (`Instruction::JUMP`).
 abbrev pub jump_kind : ℕ
 jump_kind = 1
 
+-- The number of a match (`Instruction::MATCH`).
 abbrev pub match_kind : ℕ
 match_kind = 2
 
+-- The number of a default (`Instruction::DEFAULT`).
 abbrev pub default_kind : ℕ
 default_kind = 3
 

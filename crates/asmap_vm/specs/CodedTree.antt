@@ -29,10 +29,12 @@ trees (inr (inr u) ∷ more) [] = []
 trees (inr (inr u) ∷ more) (r ∷ []) = []
 trees (inr (inr u) ∷ more) (r ∷ l ∷ made) = trees more (Jump l r ∷ made)
 
+-- The first of some trees; a return of 0 if there is none.
 abbrev pub first_tree : List Tree → Tree
 first_tree [] = Return 0
 first_tree (t ∷ made) = t
 
+-- The tokens of a tree make this tree again.
 pub trees-tokens : (t : Tree) (more : List Token) (made : List Tree)
     → trees (tokens t more) made ≡ trees more (t ∷ made)
 trees-tokens (Return n) more made = refl
@@ -42,9 +44,11 @@ trees-tokens (Jump l r) more made =
     trees-tokens l (tokens r (inr (inr tt) ∷ more)) made
     ∙ trees-tokens r (inr (inr tt) ∷ more) (l ∷ made)
 
+-- The code of a token.
 abbrev pub token_code : Coded Token
 token_code = coded⊎ (coded⊎ coded_ℕ coded_ℕ) (coded⊎ (coded_list coded_bool) coded_unit)
 
+-- The code of a tree: that of its tokens.
 abbrev pub tree_code : Coded Tree
 tree_code =
     code_by (List Token) (coded_list token_code) (λ t. tokens t [])

@@ -1,4 +1,5 @@
--- A tree as its first instruction and the parts after it.
+-- A tree as its first instruction and the parts after it. The instructions are those of `Interpret`
+-- in util/asmap.cpp of Bitcoin Core.
 use Rattle.std.specs.Prelude.{◌≡◌, ◌==◌, if◌then◌else◌, ℕ, Bool, true, List, [], ◌∷◌, ◌++◌, length}
 use Rattle.bit_code.specs.Coder.{number_of, spelling, HasValue}
 use Rattle.bit_code.specs.declared.coder.Coder.{Coder}

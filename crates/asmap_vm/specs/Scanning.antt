@@ -63,6 +63,7 @@ abbrev pub IsStuckAt : List Bool → ℕ → List RightPart → Type 0
 IsStuckAt bits offset [] = IsPadding (drop offset bits) → ⊥
 IsStuckAt bits offset (right ∷ more) = right.begins ≢ offset
 
+-- The reading cannot go on at the offset that it has come to.
 abbrev pub IsStuck : List Bool → Scan → Type 0
 IsStuck bits scan = IsStuckAt bits scan.offset scan.pending
 

@@ -8,6 +8,7 @@ use Rattle.asmap_vm.specs.Code.{Tree, Return, Jump, Match, Default, IsSaneFile}
 use Rattle.asmap_vm.specs.Matches.{match_bits}
 
 infixl 10 ◌>>=◌
+-- One step and then another, as `do` writes it; None ends it.
 abbrev pub ◌>>=◌ : {A B : Type 0} → Option A → (A → Option B) → Option B
 o >>= f = option_and_then f o
 

@@ -1,3 +1,5 @@
+//! `check`: whether bytes are the file of a sane tree.
+
 ghost use Rattle.std.specs.Prelude.{◌≡◌, ℕ, ◌<◌, ◌≤◌, ◌↔◌, length, IfOk, IsOk, Err};
 ghost use Rattle.asmap_vm.specs.Code.{Tree, IsSaneFile};
 ghost use Rattle.asmap_vm.specs.Held.{bytes_held, tree_held};

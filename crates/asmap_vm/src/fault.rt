@@ -1,3 +1,5 @@
+//! `CodeFault`: why a file is refused.
+
 ghost use Rattle.std.specs.Prelude.{◌≡◌};
 ghost use Rattle.asmap_vm.specs.FaultTexts.{code_fault_text};
 

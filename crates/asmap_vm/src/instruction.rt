@@ -1,3 +1,5 @@
+//! `Instruction` (return, jump, match or default), and how one is read.
+
 ghost use Rattle.std.specs.Prelude.{◌≡◌, ℕ, ◌<◌, ◌≤◌, Bool, true, List, ◌∷◌, ◌++◌, length, drop, IfSome, IsSomeAnd};
 ghost use Rattle.bit_code.specs.Coder.{HasValue, number_of};
 ghost use Rattle.asmap_vm.specs.Code.{Tree};

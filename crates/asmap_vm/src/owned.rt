@@ -1,3 +1,5 @@
+//! `OwnedSane`: a sane file with its own copy of the bytes.
+
 ghost use Rattle.std.specs.Prelude.{◌≡◌, IfOk};
 ghost use Rattle.asmap_vm.specs.Asmap.{IsAsmap};
 ghost use Rattle.asmap_vm.specs.Held.{bytes_held, tree_held};

@@ -1,3 +1,5 @@
+//! `Sane`: a checked file that borrows its bytes, with `asn`.
+
 ghost use Rattle.std.specs.Prelude.{length, ◌≤◌};
 ghost use Rattle.bit_code.specs.declared.bits.TheConstants.{MAX_ASMAP};
 ghost use Rattle.asmap_vm.specs.Code.{IsSaneFile};

@@ -1,3 +1,5 @@
+//! `Scan`, the one pass that checks sanity: jumps, pending parts, padding and useless defaults.
+
 ghost use Rattle.std.specs.Prelude.{◌≡◌, ◌+◌, ◌-◌, ◌^◌, ◌<◌, ◌≤◌, ◌↔◌, ◌≢◌, [], ◌∷◌, true, false, IsTrue, length, drop, if◌then◌else◌};
 ghost use Rattle.asmap_vm.specs.declared.stack.RightPart.{RightPart};
 ghost use Rattle.asmap_vm.specs.Matches.{match_size};

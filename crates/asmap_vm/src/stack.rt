@@ -1,3 +1,5 @@
+//! `RightParts`: the right parts of jumps that are still to be read, at most 128.
+
 ghost use Rattle.std.specs.Prelude.{◌≡◌, ◌<◌, [], ◌∷◌, length, MatchOption};
 ghost use Rattle.asmap_vm.specs.declared.stack.TheConstants.{DEPTH};
 

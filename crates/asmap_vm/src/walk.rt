@@ -1,3 +1,5 @@
+//! `Walk` follows the bits of one address to its answer.
+
 ghost use Rattle.std.specs.Prelude.{◌≡◌, ℕ, ◌+◌, ◌^◌, ◌<◌, ◌≤◌, length, IfNone};
 ghost use Rattle.bit_code.specs.Coder.{has_bit, digits};
 ghost use Rattle.bit_code.specs.Prefixes.{begins_with};

@@ -1,3 +1,6 @@
+//! Laws: a written file reads as the value that it was written for, and as the same list of bans;
+//! the name of a subnet parses as the subnet; what is read by this rule has such names.
+
 ghost use Rattle.std.specs.Prelude.{◌≡◌, ℕ, All, List, Option, Some};
 ghost use Rattle.ban_laws.specs.Known.{HasName, HasTimes};
 ghost use Rattle.ban_list.specs.BanFile.{IsListFile};

@@ -1,4 +1,5 @@
--- The file of a list of bans (`banlist.json`).
+-- The file of a list of bans (`banlist.json`). Bitcoin Core reads it in `BanMapFromJson` in
+-- net_types.cpp.
 use Rattle.std.specs.Prelude.{◌≡◌, ◌⊎◌, ℕ, ◌+◌, ◌<◌, ◌≤◌, List, [], ◌∷◌, map, length, codes, min, Option, Some, None, option_and_then, IsUtf8}
 use Rattle.std.specs.List.{fold}
 use Rattle.serde_json.specs.Data.{Num, unsigned, negative, float, Data, Members, number, string, array, object, member, no_members}
@@ -73,6 +74,7 @@ pub record IsListFile (rule : BanRule) (bytes : List ℕ) (bans : List Ban) : Ty
   pub few : length counted ≤ MAX_BANS
   pub made : bans ≡ merged counted
 
+-- The bytes are the file of a list, with addresses as labels.
 abbrev pub IsBanFile : List ℕ → List Ban → Type 0
 IsBanFile bytes bans = IsListFile Labels bytes bans
 
@@ -110,6 +112,7 @@ HasListFault rule bytes TooMany = HasTooMany rule bytes
 HasListFault rule bytes (TooLarge size) = ⊥
 HasListFault rule bytes Memory = ⊥
 
+-- The fault of a file that is read with addresses as labels.
 abbrev pub HasBanFault : List ℕ → BanFault → Type 0
 HasBanFault bytes fault = HasListFault Labels bytes fault
 
@@ -139,9 +142,11 @@ ban_data_with text ban = object (ban_members text ban)
 abbrev pub ban_data_by : BanRule → Ban → Data
 ban_data_by rule ban = ban_data_with (subnet_text_by rule ban.subnet) ban
 
+-- The element that is written for a ban, with addresses as labels.
 abbrev pub ban_data : Ban → Data
 ban_data ban = ban_data_by Labels ban
 
+-- The whole file that is written for a list: an object with one array of bans.
 abbrev pub file_data : List Ban → Data
 file_data bans =
     object (member (codes "banned_nets") (array (items_of (map ban_data bans))) no_members)

@@ -29,6 +29,7 @@ pub record AreBans (bans : List Ban) : Type 0 where
   pub distinct : AllPairs (λ a b. is_of b.subnet a ≡ false) bans
   pub few : length bans ≤ MAX_BANS
 
+-- The ban of a subnet between these two times.
 abbrev pub ban_of : Subnet → ℕ → ℕ → Ban
 ban_of subnet created until = record { subnet = subnet; created = created; until = until }
 
@@ -64,6 +65,8 @@ pub record Outcome : Type 0 where
   pub reply : BanReply
   pub bans : List Ban
 
+-- What a new ban does to the list, by the ban of its subnet that is listed: a ban that ends later
+-- replaces it, and a full list takes no other subnet.
 abbrev pub outcome_by : Option Ban → Ban → List Ban → Outcome
 outcome_by (Some old) new bans =
     if nat_le new.until old.until then record { reply = Kept; bans = bans }

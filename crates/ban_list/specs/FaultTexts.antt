@@ -3,6 +3,7 @@ use Rattle.std.specs.Prelude.{ℕ, List, codes}
 use Rattle.ban_list.specs.declared.fault.BanFault.{BanFault}
 use Rattle.ban_list.specs.declared.fault.BanFault.TheVariants.{Json, Form, TooMany, TooLarge, Memory}
 
+-- The word of a fault.
 abbrev pub ban_fault_text : BanFault → List ℕ
 ban_fault_text Json = codes "json"
 ban_fault_text Form = codes "form"

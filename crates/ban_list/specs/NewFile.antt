@@ -29,6 +29,7 @@ subnet_cmp s t =
     ordering_then (nat_cmp (net_number s.addr.net) (net_number t.addr.net))
     (ordering_then (slice_cmp nat_cmp s.addr.bytes t.addr.bytes) (nat_cmp s.len t.len))
 
+-- The ban of the lower subnet comes first.
 abbrev pub comes_before : Ban → Ban → Bool
 comes_before a b = is_lt (subnet_cmp a.subnet b.subnet)
 
@@ -50,11 +51,13 @@ items_of (j ∷ js) = item j (items_of js)
 abbrev pub Element : Type 0
 Element = Json × Option Subnet
 
+-- An element of the old list bans this subnet, or is not a ban.
 abbrev pub IsOldElement : Json → Option Subnet → Type 0
 IsOldElement j (Some subnet) =
     (d : Data) × (of_json j ≡ Some d) × (ban : Ban) × IsElement Names d ban × (ban.subnet ≡ subnet)
 IsOldElement j None = (d : Data) → of_json j ≡ Some d → (ban : Ban) → IsElement Names d ban → ⊥
 
+-- Each element is paired with the subnet that it bans, if it is a ban.
 unfoldable pub AreOldElements : List Element → Type 0
 AreOldElements [] = ⊤
 AreOldElements (e ∷ es) = IsOldElement e.0 e.1 × AreOldElements es
@@ -114,6 +117,7 @@ abbrev pub members_list : Members → List Member
 members_list no_members = []
 members_list (member name value more) = (name, value) ∷ members_list more
 
+-- The members of a value; none if it is not an object.
 abbrev pub members_in : Json → List Member
 members_in (object ms) = members_list ms
 members_in other = []

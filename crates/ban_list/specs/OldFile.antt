@@ -1,5 +1,5 @@
 -- What is found in an old file, and the tokens of what is written of it; for private clauses.
-use Rattle.std.specs.Prelude.{◌≡◌, ℕ, ◌+◌, List, [], ◌∷◌, ◌++◌, map, flat_map, codes, decimal, get_or, length, nat_lt, IsUtf8, Bool, false, Vec, Option, Some, None, option_and_then, ⊤, if◌then◌else◌}
+use Rattle.std.specs.Prelude.{◌≡◌, ℕ, ◌+◌, List, [], ◌∷◌, ◌++◌, flat_map, codes, decimal, get_or, length, nat_lt, IsUtf8, Bool, false, Vec, Option, Some, None, option_and_then, if◌then◌else◌}
 use Rattle.std.specs.Borrow.{Bor}
 use Rattle.std.specs.declared.alloc.Global.{Global}
 use Rattle.std.specs.Map.{lookup}
@@ -31,6 +31,7 @@ abbrev pub item_list : Items → List Json
 item_list no_items = []
 item_list (item j js) = j ∷ item_list js
 
+-- The elements of a value, if it is an array.
 abbrev pub array_list : Json → Option (List Json)
 array_list (array js) = Some (item_list js)
 array_list other = None
@@ -44,6 +45,7 @@ abbrev pub IsSubnetOf : Data → Option Subnet → Type 0
 IsSubnetOf d (Some subnet) = (ban : Ban) × IsElement Names d ban × (ban.subnet ≡ subnet)
 IsSubnetOf d None = (ban : Ban) → IsElement Names d ban → ⊥
 
+-- The subnets are those of the elements, one for each.
 unfoldable pub AreSubnets : List Data → List (Option Subnet) → Type 0
 AreSubnets [] subnets = subnets ≡ []
 AreSubnets (d ∷ ds) [] = ⊥
@@ -65,18 +67,22 @@ elements_with (j ∷ js) (subnet ∷ subnets) = (j, subnet) ∷ elements_with js
 
 -- ---- the positions of the elements of a subnet
 
+-- An element with this subnet bans it.
 abbrev pub bans_it : Subnet → Option Subnet → Bool
 bans_it subnet None = false
 bans_it subnet (Some own) = same_subnet own subnet
 
+-- The places of the elements that ban a subnet, counted from a number on.
 unfoldable pub places_from : Subnet → ℕ → List (Option Subnet) → List ℕ
 places_from subnet place [] = []
 places_from subnet place (own ∷ subnets) =
     (if bans_it subnet own then place ∷ [] else []) ++ places_from subnet (place + 1) subnets
 
+-- The places of the elements that ban a subnet.
 abbrev pub places_of : Subnet → List (Option Subnet) → List ℕ
 places_of subnet subnets = places_from subnet 0 subnets
 
+-- The places that are found; none if the subnet has no element.
 abbrev pub list_of : Option (Vec ℕ Global) → List ℕ
 list_of None = []
 list_of (Some places) = places.items
@@ -97,9 +103,11 @@ IsStoredAt own place old new = (subnet : Subnet) →
 abbrev pub IsAppended : Written → Written → List Token → Type 0
 IsAppended old new tokens = (new.tokens ≡ old.tokens ++ tokens) × (new.before ≡ old.before)
 
+-- The tokens of a member: its name and its value.
 abbrev pub member_tokens : Member → List Token
 member_tokens m = Token.key m.0 ∷ json_tokens m.1
 
+-- The tokens of some members.
 abbrev pub tokens_of : List Member → List Token
 tokens_of ms = flat_map member_tokens ms
 
@@ -112,9 +120,11 @@ has_name part.Ban name = is_ban_name name
 abbrev pub beside_tokens : Part → Member → List Token
 beside_tokens part m = if has_name part m.0 then [] else member_tokens m
 
+-- The tokens of a member as it is in memory, unless it is written anew.
 abbrev pub besides_tokens : {A : Type 0} → Part → Bor (List ℕ) × Value A → List Token
 besides_tokens part m = beside_tokens part (member_view m)
 
+-- A member whose value is a whole number.
 abbrev pub number_member : List ℕ → ℕ → Member
 number_member name n = (name, number (decimal n))
 

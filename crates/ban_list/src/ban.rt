@@ -1,3 +1,5 @@
+//! `Ban` and `BanRule`: a subnet with two times, and when the ban expires.
+
 use crate::Subnet;
 use net_addr::NetAddr;
 

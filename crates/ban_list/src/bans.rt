@@ -1,3 +1,5 @@
+//! `Bans`, `BanReply` and `MAX_BANS`: ban, unban and `covering`, with one ban for each subnet.
+
 ghost use Rattle.std.specs.Prelude.{◌≡◌, option_map, find, ◌<◌, ◌≤◌, length, Some, None, IfSome, IfNone, is_some, slice_index_or, IfOk};
 ghost use Rattle.ban_list.specs.Bans.{stops, reply_outcome, current_by, without_ban, is_of, listed};
 ghost use Rattle.std.specs.List.{position_or_len};

@@ -1,3 +1,5 @@
+//! `BanFault`: why a file is not a list of bans.
+
 ghost use Rattle.std.specs.Prelude.{◌≡◌};
 ghost use Rattle.ban_list.specs.FaultTexts.{ban_fault_text};
 ghost use Rattle.ban_list.specs.declared.fault.BanFault.TheVariants as fault;

@@ -1,3 +1,5 @@
+//! Laws: a text is one subnet, and a file is one list.
+
 ghost use Rattle.std.specs.Prelude.{◌≡◌, ℕ, List};
 ghost use Rattle.ban_list.specs.BanFile.{HasOneMeaning};
 ghost use Rattle.ban_list.specs.Subnet.{IsProper};

@@ -1,3 +1,6 @@
+//! Prints the file in Bitcoin Core's form: other members and elements of the old file stay as they
+//! are, and those of bans go under their subnets.
+
 ghost use Rattle.std.specs.Prelude.{◌≡◌, ◌≤◌, ◌∷◌, ◌++◌, All, IfOk, IsUtf8, OnOk, List, drop, length, map, flat_map, codes};
 ghost use Rattle.json.specs.Json.{Json};
 ghost use Rattle.json.specs.Print.{print};

@@ -1,3 +1,6 @@
+//! `read_bans`, `read_bans_by` and `read_bans_counting` read the elements of the JSON array, in a
+//! file of at most `MAX_FILE` (32 MiB).
+
 ghost use Rattle.std.specs.Prelude.{◌≡◌, ◌⊎◌, List, ◌≤◌, ◌<◌, true, false, codes, map, length, All, IfOk, IfErr, IfSome, IsErrAnd, MatchResult, option_and_then, option_map, Some};
 ghost use Rattle.serde_json.specs.Data.{Data, depth};
 ghost use Rattle.serde_json.specs.Find.{get, as_array, as_number, as_str, as_u64};

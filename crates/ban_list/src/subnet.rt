@@ -1,3 +1,5 @@
+//! `Subnet`, an address and a length in bits: `covers`, and the bits that are cleared.
+
 ghost use Rattle.std.specs.Prelude.{◌≡◌, ◌<◌, ◌≤◌, length};
 ghost use Rattle.ban_list.specs.Subnet.{clear, kept};
 

@@ -1,3 +1,5 @@
+//! Subnets with `.onion` and `.b32.i2p` names, by the rule of a list.
+
 ghost use Rattle.std.specs.Prelude.{◌≡◌, ◌++◌, Some, IfOk, IfSome, OnOk, OnErr, string_bytes};
 ghost use Rattle.ban_list.specs.Subnet.{IsProper};
 ghost use Rattle.ban_list.specs.SubnetText.{IsNamedSubnet, IsNamedText, IsSubnetTextBy, subnet_name, subnet_text_by};

@@ -1,3 +1,5 @@
+//! Parses and prints subnets as text: `1.2.3.0/24`, or whole addresses with labels.
+
 ghost use Rattle.std.specs.Prelude.{◌≡◌, ◌≢◌, ◌≤◌, Some, None, IfSome, IfNone, length, true, false, ◌++◌, OnOk, OnErr, IfOk};
 ghost use Rattle.net_addr.specs.Address.{Address, IsAddress};
 ghost use Rattle.net_addr.specs.declared.net.Net.{Net};

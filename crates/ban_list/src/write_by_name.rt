@@ -1,3 +1,6 @@
+//! `write_bans_by` writes Bitcoin Core's form: what the old file contains, and which of its
+//! elements are bans.
+
 ghost use Rattle.std.specs.Prelude.{◌≡◌, [], IfNone, IfOk, IfSome, map, option_map};
 ghost use Rattle.std.specs.List.Sorted.{IsPermutation, IsSortedBy};
 ghost use Rattle.json.specs.Json.{object};

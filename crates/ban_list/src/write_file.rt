@@ -1,3 +1,5 @@
+//! `write_bans` writes this program's form, without spaces.
+
 ghost use Rattle.std.specs.Prelude.{◌≡◌, ◌<◌, ◌≤◌, All, IfOk, map, codes, string_bytes, IsUtf8};
 ghost use Rattle.serde_json.specs.Data.{object, member, array, no_members};
 ghost use Rattle.serde_json.specs.View.{view, items_view};

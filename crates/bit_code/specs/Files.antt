@@ -1,4 +1,5 @@
--- The file of some bits.
+-- The file of some bits. Bitcoin Core allows the same padding (`SanityCheckASMap` in
+-- util/asmap.cpp).
 use Rattle.std.specs.Prelude.{◌≡◌, ℕ, ◌+◌, ◌-◌, ◌≤◌, Bool, false, List, ◌++◌, length, replicate}
 use Rattle.bit_code.specs.Coder.{file_bits}
 

@@ -1,3 +1,5 @@
+//! Decodes a kind or a number from a window of bits, by its class and without branches.
+
 ghost use Rattle.std.specs.Prelude.{◌≡◌, ◌+◌, ◌-◌, ◌<◌, ◌≤◌, Bool, List, ◌++◌, Some, drop, length};
 ghost use Rattle.bit_code.specs.Coder.{low_digits, coder_after};
 ghost use Rattle.bit_code.specs.Reading.{read_value};

@@ -1,9 +1,11 @@
+//! `BitFront` writes bits from their end: each number goes before the bits that are there.
+
 ghost use Rattle.std.specs.Prelude.{◌≡◌, List, Bool, [], ◌++◌, length, OnOk, OnErr};
 ghost use Rattle.bit_code.specs.Coder.{HasValue, spelling};
 ghost use Rattle.bit_code.specs.Files.{IsFileOf};
 
+use crate::Memory;
 use crate::coder::Coder;
-use crate::memory::Memory;
 use crate::packing::{cat_bits, closed, make_room, prepend_bits, shift_in};
 use crate::spelled::spell;
 use std::alloc::Global;

@@ -1,9 +1,11 @@
+//! `BitOut` writes bits: each number goes after the one before it.
+
 ghost use Rattle.std.specs.Prelude.{◌≡◌, List, Bool, [], ◌++◌, length, OnOk, OnErr};
 ghost use Rattle.bit_code.specs.Coder.{HasValue, spelling};
 ghost use Rattle.bit_code.specs.Files.{IsFileOf};
 
+use crate::Memory;
 use crate::coder::Coder;
-use crate::memory::Memory;
 use crate::packing::{append_bits, append_bytes, cat_bits, closed, make_room};
 use crate::spelled::spell;
 use std::alloc::Global;

@@ -1,3 +1,5 @@
+//! `Bits`, the bits of a file, with `get` and a `window` of 57 bits; and `MAX_ASMAP`, 8 MiB.
+
 ghost use Rattle.std.specs.Prelude.{◌≡◌, ◌+◌, ◌*◌, ◌<◌, ◌≤◌, ◌∷◌, ◌++◌, Some, length, slice_get, drop, replicate};
 ghost use Rattle.bit_code.specs.Coder.{file_bits};
 ghost use Rattle.std.specs.Int.{from_le_bytes, w64};

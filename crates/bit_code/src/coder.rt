@@ -1,3 +1,5 @@
+//! `Coder` and its classes of sizes, for kinds, AS numbers, matches and jumps.
+
 ghost use Rattle.std.specs.Prelude.{◌≡◌, ◌≤◌, IfSome, IfNone};
 ghost use Rattle.bit_code.specs.Coder.{coder_after};
 ghost use Rattle.bit_code.specs.Inside.{HasClasses};

@@ -13,7 +13,6 @@ mod bit_front;
 mod bit_out;
 mod bits;
 mod coder;
-mod memory;
 mod number;
 mod packing;
 mod reversal;

@@ -1,3 +1,5 @@
+//! Reads at an offset in bits: `read_number` and `read_kind_and_number`.
+
 ghost use Rattle.std.specs.Prelude.{◌≡◌, ℕ, ◌+◌, ◌<◌, ◌≤◌, Bool, List, length, drop, IfSome, IfNone, IsSomeAnd};
 ghost use Rattle.bit_code.specs.Coder.{Spells, SpellsBoth};
 

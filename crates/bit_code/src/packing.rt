@@ -1,8 +1,10 @@
+//! Packs bits into bytes: `append_bits`, `prepend_bits`, `shift_in` and `make_room`.
+
 ghost use Rattle.std.specs.Prelude.{◌≡◌, ◌+◌, ◌-◌, ◌*◌, ◌/◌, ◌%◌, ◌^◌, ◌<◌, ◌≤◌, Bool, List, ◌++◌, length, reverse, vec_len, vec_capacity, OnOk};
 ghost use Rattle.bit_code.specs.Coder.{file_bits, low_digits};
 ghost use Rattle.bit_code.specs.Files.{IsFileOf};
 
-use crate::memory::Memory;
+use crate::Memory;
 
 /// The maximum number of bytes of a list of bits. With more, the number of bits would not fit a
 /// `usize`.

@@ -1,3 +1,5 @@
+//! Reverses the bits of a byte by a table of 256 entries.
+
 ghost use Rattle.std.specs.Prelude.{◌≡◌, ◌^◌, ◌<◌, ◌≤◌};
 ghost use Rattle.bit_code.specs.Coder.{low_digits, number_of};
 

@@ -1,3 +1,5 @@
+//! `Spelled`: the bits that encode a number, from its class and its digits.
+
 ghost use Rattle.std.specs.Prelude.{◌≡◌, ◌+◌, ◌-◌, ◌*◌, ◌^◌, ◌<◌, ◌≤◌};
 ghost use Rattle.std.specs.List.{range_with_len};
 ghost use Rattle.bit_code.specs.Coder.{HasValue, spelling, spelling_by, low_digits};

@@ -1,3 +1,5 @@
+//! `AnswersHandle`: the kept answers to `getaddr`.
+
 ghost use Rattle.std.specs.Prelude.{◌≡◌, ◌↔◌, Some, None, IsTrue, IsSome, option_map};
 ghost use Rattle.std.specs.declared.option.Option.{Option};
 ghost use Rattle.c_handles.specs.declared.answers_handle.KeptAnswers.{KeptAnswers};

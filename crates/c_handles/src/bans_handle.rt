@@ -1,3 +1,5 @@
+//! `BansHandle`: a list of bans.
+
 ghost use Rattle.std.specs.Prelude.{◌≡◌, ◌↔◌, Some, None, IsTrue, IsSome, option_map};
 ghost use Rattle.std.specs.declared.option.Option.{Option};
 ghost use Rattle.c_handles.specs.declared.bans_handle.KeptBans.{KeptBans};

@@ -1,3 +1,5 @@
+//! `Handle`: tables and open peers.
+
 ghost use Rattle.std.specs.Prelude.{◌≡◌, ◌↔◌, Some, None, IsTrue, IsSome, option_map};
 ghost use Rattle.std.specs.declared.option.Option.{Option};
 ghost use Rattle.c_handles.specs.declared.handle.Kept.{Kept};

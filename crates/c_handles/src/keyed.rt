@@ -1,3 +1,5 @@
+//! `Keyed`: SipHash-1-3 with two keys from the caller.
+
 ghost use Rattle.std.specs.Prelude.{◌≡◌};
 ghost use Rattle.c_handles.specs.Seeded.{seeded};
 

@@ -1,3 +1,5 @@
+//! `LimiterHandle`: the limit on received addresses.
+
 ghost use Rattle.std.specs.Prelude.{◌≡◌, ◌↔◌, Some, None, IsTrue, IsSome, option_map};
 ghost use Rattle.std.specs.declared.option.Option.{Option};
 ghost use Rattle.c_handles.specs.declared.limiter_handle.KeptLimiter.{KeptLimiter};

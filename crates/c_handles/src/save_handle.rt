@@ -1,3 +1,5 @@
+//! `SaveHandle`: a save in pieces.
+
 ghost use Rattle.std.specs.Prelude.{◌≡◌, ◌↔◌, Some, None, IsTrue, IsSome, option_map};
 ghost use Rattle.std.specs.declared.option.Option.{Option};
 ghost use Rattle.c_handles.specs.declared.save_handle.KeptSave.{KeptSave};

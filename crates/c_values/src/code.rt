@@ -1,4 +1,4 @@
-// What an export returns: ADDRMAN_OK and the others of addrman.h, which says when each comes.
+//! What an export returns: ADDRMAN_OK and the others of addrman.h, which says when each comes.
 
 /// The call did what it is for.
 pub const OK: u32 = 0;

@@ -1,3 +1,5 @@
+//! Entries of messages from and to C.
+
 ghost use Rattle.std.specs.Prelude.{◌≡◌, ◌≢◌, ◌≤◌, length, drop, IfOk};
 ghost use Rattle.c_values.specs.Entries.{AreEntries, EntriesPut, IsEntry, entries_in, entry_in};
 

@@ -1,3 +1,5 @@
+//! The number of a message's fault.
+
 ghost use Rattle.std.specs.Prelude.{◌≡◌};
 ghost use Rattle.c_values.specs.Faults.{fault_number};
 

@@ -1,3 +1,5 @@
+//! The law of the codes' numbers.
+
 ghost use Rattle.std.specs.Prelude.{◌≡◌};
 ghost use Rattle.c_values.specs.declared.code.TheConstants as codes;
 

@@ -1,3 +1,5 @@
+//! Writes bytes to an output, whole or not at all.
+
 ghost use Rattle.std.specs.Prelude.{◌≡◌, ◌≤◌, ◌++◌, length, drop};
 ghost use Rattle.c_values.specs.Values.{IsPut};
 

@@ -1,3 +1,5 @@
+//! Writes peers to an output.
+
 ghost use Rattle.std.specs.Prelude.{◌≡◌, ◌≢◌, ◌≤◌, length, drop};
 ghost use Rattle.c_values.specs.Records.{ArePeers, PeersPut};
 

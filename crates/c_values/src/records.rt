@@ -1,3 +1,5 @@
+//! Writes records with their buckets to an output.
+
 ghost use Rattle.std.specs.Prelude.{◌≡◌, ◌≢◌, ◌≤◌, length, take, drop};
 ghost use Rattle.peer_rec.specs.Rec.{buckets_by};
 ghost use Rattle.c_values.specs.Records.{IsRecord, AreRecords, RecordsPut};

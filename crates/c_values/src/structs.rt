@@ -1,3 +1,6 @@
+//! The structs of answers: `AddrmanPicked`, `AddrmanRecord`, `AddrmanFault`, `AddrmanBan`,
+//! `AddrmanLimits` and others.
+
 use crate::values::{AddrmanAddr, AddrmanPeer};
 
 /// How many entries a message has, and how many of them got a slot.

@@ -1,3 +1,5 @@
+//! `AddrmanAddr` and `AddrmanPeer`, and networks as bits.
+
 ghost use Rattle.std.specs.Prelude.{◌≡◌, ◌%◌, Some};
 ghost use Rattle.net_addr.specs.NetBits.{nets_of};
 ghost use Rattle.c_values.specs.Values.{network_of, class_of, address_by, address_in, peer_in, with_bit, bit};

@@ -1,3 +1,5 @@
+//! The law that the dot of each slot is in one rectangle.
+
 ghost use Rattle.std.specs.Prelude.{◌≡◌, ℕ, ◌+◌, ◌*◌, ◌<◌, ◌≤◌, List, [], ◌∷◌, length, get_or};
 ghost use Rattle.dot_runs.specs.Rects.{dots_over, dot_x, dot_y, table_rects};
 

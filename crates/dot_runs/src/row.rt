@@ -1,3 +1,5 @@
+//! `put_row`: the runs of one mark in a row (`M..h..v1h-..z`).
+
 ghost use Rattle.std.specs.Prelude.{◌≡◌, ◌<◌, ◌≤◌, ◌+◌, ◌^◌, ◌++◌, length, drop, OnOk, IfOk, get_or};
 ghost use Rattle.dot_runs.specs.Runs.{leading, row_text, run_text, rect_text, run};
 

@@ -1,3 +1,5 @@
+//! A peer that 1.2.3.4 announces is added.
+
 use net_addr::{Entry, NetAddr, Peer};
 use node_calls::add;
 use std::hash::BuildHasher;

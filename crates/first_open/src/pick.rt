@@ -1,3 +1,5 @@
+//! `first_pick`: 8.8.8.8 is announced and picked.
+
 use net_addr::{Entry, NetAddr, NetSet, Peer};
 use node_calls::{add, select};
 use picking::Picked;

@@ -1,3 +1,5 @@
+//! `try_open`: one try of an outbound connection.
+
 ghost use Rattle.std.specs.Prelude.{◌≡◌, IfSome, IfNone};
 ghost use Rattle.placing.specs.Places.{group};
 ghost use Rattle.peer_open.specs.Groups.{AreApart, with_peer};

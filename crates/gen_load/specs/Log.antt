@@ -1,4 +1,5 @@
--- The generated log: the random words that it uses, and its lines.
+-- The generated log: the random words that it uses, and its lines. The generator is xoshiro256++ as
+-- in rand_xoshiro.
 use Rattle.std.specs.Prelude.{ℕ, zero, suc, ◌+◌, ◌-◌, ◌/◌, ◌%◌, ◌^◌, List, [], ◌∷◌, ◌++◌, length, nat_lt, codes, decimal, if◌then◌else◌}
 use Rattle.hex.specs.Hex.{encode_lower}
 use Rattle.rand_xoshiro.specs.Xoshiro256.{plus_plus, of_seed}
@@ -31,6 +32,7 @@ past at = record { generator = (plus_plus at.generator).1; time = at.time }
 abbrev pub peer_of : ℕ → Peer
 peer_of j = record { addr = address Ipv4 ((20 + j % 64) ∷ j / 64 ∷ 1 ∷ 1 ∷ []); port = 8333 }
 
+-- One of the peers, by a random word.
 abbrev pub draw_peer : Position → Peer
 draw_peer at = peer_of (draw 16384 at)
 
@@ -38,10 +40,12 @@ draw_peer at = peer_of (draw 16384 at)
 abbrev pub draw_entry : Position → Entry
 draw_entry at = record { time = at.time - draw 86400 at; services = 1; peer = draw_peer (past at) }
 
+-- A number of entries, each by two random words.
 abbrev pub draw_entries : ℕ → Position → List Entry
 draw_entries zero at = []
 draw_entries (suc n) at = draw_entry at ∷ draw_entries n (past (past at))
 
+-- The position after a number of entries.
 abbrev pub past_entries : ℕ → Position → Position
 past_entries zero at = at
 past_entries (suc n) at = past_entries n (past (past at))
@@ -51,6 +55,7 @@ pub record Drawn : Type 0 where
   pub text : List ℕ
   pub after : Position
 
+-- This text, and this position after it.
 abbrev pub drawn : List ℕ → Position → Drawn
 drawn text after = record { text = text; after = after }
 
@@ -58,6 +63,7 @@ drawn text after = record { text = text; after = after }
 abbrev pub later : Position → Position
 later at = record { generator = (past at).generator; time = at.time + (1 + draw 600 at) }
 
+-- A line `now`, with the clock moved.
 abbrev pub clock_line : Position → Drawn
 clock_line at = drawn (codes "now " ++ decimal (later at).time) (later at)
 
@@ -82,11 +88,13 @@ addr_line at =
     let end = past_entries count first in
     drawn (message_line source (draw_entries count first) (draw (2 ^ 32) end)) (past end)
 
+-- A line `select`, with a seed for its random words.
 abbrev pub select_line : Position → Drawn
 select_line at =
     drawn (codes "select any all @" ++ decimal (draw (2 ^ 32) at) ++ codes ":" ++ decimal 300)
     (past at)
 
+-- A line `clash`, with a random word.
 abbrev pub clash_line : Position → Drawn
 clash_line at = drawn (codes "clash " ++ decimal (draw (2 ^ 32) at)) (past at)
 
@@ -102,6 +110,7 @@ kind_of n =
     else if nat_lt n 15 then kind.Clash
     else kind.Resolve
 
+-- The line of a kind.
 abbrev pub line_of : Kind → Position → Drawn
 line_of kind.Now at = clock_line at
 line_of kind.Addr at = addr_line at
@@ -135,6 +144,7 @@ abbrev pub next_line : List (List ℕ) → List ℕ
 next_line [] = []
 next_line (line ∷ lines) = line
 
+-- The lines after the next one.
 abbrev pub lines_after : List (List ℕ) → List (List ℕ)
 lines_after [] = []
 lines_after (line ∷ lines) = lines

@@ -43,6 +43,7 @@ pub record IsGenLine (line : List ℕ) : Type 0 where
 abbrev pub without_feed : List ℕ → List ℕ
 without_feed line = take (length line - 1) line
 
+-- Each line is one that a generated log can have.
 abbrev pub AreLines : List (List ℕ) → Type 0
 AreLines [] = ⊤
 AreLines (line ∷ lines) = IsGenLine line × AreLines lines

@@ -1,3 +1,5 @@
+//! `Gen`, the lines to come, and `next`; with `MAX_LINES` and `MAX_LENGTH`.
+
 ghost use Rattle.std.specs.Prelude.{◌≡◌, ◌≤◌, ◌+◌, ◌++◌, [], take, vec_len, OnOk};
 ghost use Rattle.gen_load.specs.Inside.{line_with, position_with};
 

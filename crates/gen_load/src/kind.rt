@@ -1,3 +1,5 @@
+//! `Kind`: which kind of line a random number below 16 gives.
+
 ghost use Rattle.std.specs.Prelude.{◌≡◌};
 ghost use Rattle.gen_load.specs.Log.{kind_of};
 

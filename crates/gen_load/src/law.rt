@@ -1,3 +1,5 @@
+//! Laws: each line parses as one command about routable peers; and the limits.
+
 ghost use Rattle.std.specs.Prelude.{◌≡◌, ℕ, ◌≤◌, ◌*◌, length, map};
 ghost use Rattle.std.specs.List.{concat};
 ghost use Rattle.host_io.specs.Lines.{lines_of};

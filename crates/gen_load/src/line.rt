@@ -1,3 +1,5 @@
+//! The text of a line: `now`, peers, `select`, `clash`, and `addr` with its payload.
+
 ghost use Rattle.std.specs.Prelude.{◌≡◌, ◌≤◌, ◌+◌, ◌++◌, length, take, All, OnOk, vec_len};
 ghost use Rattle.net_addr.specs.declared.net.Net.TheVariants.{Ipv4};
 ghost use Rattle.addr_codecs.specs.Texts.{addr_entry_text, message_text};

@@ -1,3 +1,5 @@
+//! `Position`, the generator and the clock: draws peers and entries, with `PEERS` and `DAY`.
+
 ghost use Rattle.std.specs.Prelude.{◌≡◌, ◌<◌};
 ghost use Rattle.net_addr.specs.declared.net.Net.TheVariants.{Ipv4};
 ghost use Rattle.gen_load.specs.Log.{peer_of};

@@ -1,3 +1,5 @@
+//! Prints a peer between two texts.
+
 ghost use Rattle.std.specs.Prelude.{◌≡◌, ◌++◌, take, vec_len, OnOk};
 ghost use Rattle.net_addr.specs.Text.{peer_text};
 

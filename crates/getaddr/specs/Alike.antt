@@ -12,6 +12,7 @@ pub record Seen : Type 0 where
   pub services : ℕ
   pub is_terrible : Bool
 
+-- What such an answer has of a record, at a time.
 abbrev pub seen : ℕ → Rec → Seen
 seen now r = record {
   number = r.number;

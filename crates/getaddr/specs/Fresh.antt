@@ -28,6 +28,7 @@ abbrev pub time_for_all : Times → ℕ → ℕ → Option ℕ
 time_for_all Hidden now word = Some (told_time now word)
 time_for_all Own now word = None
 
+-- The time of an entry: the one for all, or that of its record.
 abbrev pub time_of : Option ℕ → Rec → ℕ
 time_of (Some time) r = time
 time_of None r = r.time
@@ -56,6 +57,7 @@ entries_by st bans time now words =
     let found = sample_of st now words in
     flat_map (λ peer. option_to_list (entry_of found.state bans time now peer)) found.answer
 
+-- The entries of a new answer.
 abbrev pub fresh : State → List Ban → Times → ℕ → ℕ → List ℕ → List Entry
 fresh st bans times now word words = entries_by st bans (time_for_all times now word) now words
 

@@ -1,3 +1,5 @@
+//! `prepare` sees to it that a key has an answer; with `MAX_PERCENT`.
+
 ghost use Rattle.std.specs.Prelude.{◌≡◌, ◌≤◌, IfOk, OnOk, OnErr, length};
 ghost use Rattle.addr_answers.specs.Runs.{after_ask};
 ghost use Rattle.addr_answers.specs.declared.answers.TheConstants.{MAX_TOLD};

@@ -1,3 +1,5 @@
+//! The entries of sampled peers, without banned ones.
+
 ghost use Rattle.std.specs.Prelude.{◌≡◌, ◌≤◌, IfOk, length, flat_map, option_to_list};
 ghost use Rattle.getaddr.specs.Fresh.{entry, entry_of};
 

@@ -1,3 +1,5 @@
+//! Laws of answers: their records, hidden times and independence; and the limit.
+
 ghost use Rattle.std.specs.Prelude.{◌≡◌, ℕ, List, ◌≤◌, ◌*◌, length, take, IsPermutation};
 ghost use Rattle.std.specs.List.{AllByRecursion};
 ghost use Rattle.addr_answers.specs.Answers.{told_time};

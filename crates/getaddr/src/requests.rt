@@ -1,3 +1,5 @@
+//! `prepare_with`: the same as `prepare`, with random words in a slice; and `RequestFault`.
+
 ghost use Rattle.std.specs.Prelude.{◌≡◌, ◌<◌, length, IfErr, OnOk, OnErr, true, false};
 ghost use Rattle.addr_answers.specs.Runs.{after_ask};
 ghost use Rattle.getaddr.specs.Requests.{request, tables_after_request, lacks_room, wants_answer, IsRequestFault};

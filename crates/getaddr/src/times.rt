@@ -1,3 +1,5 @@
+//! `Times`: the times of entries, hidden or shown.
+
 ghost use Rattle.std.specs.Prelude.{◌≡◌};
 ghost use Rattle.getaddr.specs.Fresh.{time_for_all};
 

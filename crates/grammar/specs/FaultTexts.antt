@@ -3,6 +3,7 @@ use Rattle.std.specs.Prelude.{ℕ, List, codes}
 use Rattle.grammar.specs.declared.fault.LineFault.{LineFault}
 use Rattle.grammar.specs.declared.fault.LineFault.TheVariants.{Word, Fields, Number, Peer, Hex, Words, Memory}
 
+-- The word of a fault.
 abbrev pub line_fault_text : LineFault → List ℕ
 line_fault_text Word = codes "word"
 line_fault_text Fields = codes "fields"

@@ -1,4 +1,6 @@
--- The kinds of the fields of a line, and the value of the text of a field.
+-- The kinds of the fields of a line, and the value of the text of a field. Hexadecimal digits are
+-- those of RFC 4648, section 8. Seeded words are those of xoshiro256++ by Blackman and Vigna, with
+-- `seed_from_u64` of rand_xoshiro.
 use Rattle.std.specs.Prelude.{◌≡◌, ◌⊎◌, ◌≢◌, ℕ, ◌<◌, ◌≤◌, ◌^◌, List, [], ◌∷◌, ◌++◌, map, fold, length, All, AllPairs, Bool, true, false, ◌-◌, Ok, codes, decimal}
 use Rattle.std.specs.List.{join_with_byte}
 use Rattle.hex.specs.Hex.{decode_of}
@@ -25,10 +27,11 @@ pub data Kind : Type 0 where
   Nets : Kind
   Classes : Kind
 
--- the numbers of 32 and of 64 bits
+-- The field of a number of 32 bits.
 abbrev pub u32_field : Kind
 u32_field = Number 0 (2 ^ 32 - 1)
 
+-- The field of a number of 64 bits.
 abbrev pub u64_field : Kind
 u64_field = Number 0 (2 ^ 64 - 1)
 
@@ -86,6 +89,7 @@ AreNets text set =
     ⊎ ((nets : List Net) × AreNames text nets × All (λ net. net ≢ Unroutable) nets
     × (set ≡ set_of nets))
 
+-- The first of two words if true, and the second if false.
 abbrev pub choice : List ℕ → List ℕ → Bool → List ℕ
 choice first second true = first
 choice first second false = second

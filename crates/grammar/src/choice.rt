@@ -1,3 +1,5 @@
+//! `Choice` and `OneOf`: a field that is one of two keywords.
+
 ghost use Rattle.std.specs.Prelude.{◌≡◌, ◌≢◌, ℕ, List};
 ghost use Rattle.grammar.specs.Fields.{Either, TheChoice};
 

@@ -1,3 +1,5 @@
+//! `LineFault`: an unknown keyword, a wrong number of fields, or a field with an error.
+
 ghost use Rattle.std.specs.Prelude.{◌≡◌};
 ghost use Rattle.grammar.specs.FaultTexts.{line_fault_text};
 

@@ -1,3 +1,5 @@
+//! Reads one field: a decimal number in a range, hexadecimal bytes, or one of two keywords.
+
 ghost use Rattle.std.specs.Prelude.{◌≡◌, ◌≢◌, ◌≤◌, ◌⊎◌, ℕ, List, decimal, IfOk, IfSome, Some, Ok, Err};
 ghost use Rattle.grammar.specs.Fields.{Means, Number, Either, TheNumber, TheChoice, IsFieldFault, IsHex};
 
@@ -8,7 +10,7 @@ use net_addr::parse_number;
 use std::alloc::Global;
 
 /// Reads a number in decimal digits, or returns `None` if the text is no number or the number is
-/// above `most`. A sign or a leading zero is refused.
+/// above `max`. A sign or a leading zero is refused.
 pub fn read_decimal(text: &[u8], max: u64) -> Option<u64>
     ensures found { IfSome result (λ n. (n ≤ max) × (text.now ≡ decimal n)) }
     ensures only { (n : ℕ) → n ≤ max → text.now ≡ decimal n → result ≡ Some n }
@@ -16,7 +18,7 @@ pub fn read_decimal(text: &[u8], max: u64) -> Option<u64>
     parse_number(text, max)
 }
 
-/// Reads a number from `least` to `most`.
+/// Reads a number from `min` to `max`.
 pub fn read_number(text: &[u8], min: u64, max: u64) -> Result<u64, LineFault>
     ensures found { IfOk result (λ n. Means (Number min max) text.now (TheNumber n)) }
     ensures within { IfOk result (λ n. n ≤ max) }

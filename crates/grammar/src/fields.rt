@@ -1,3 +1,5 @@
+//! The traits `Field` and `Fields`: nested pairs of kinds, with `fit` and `read_fields`.
+
 ghost use Rattle.std.specs.Prelude.{◌≡◌, ◌≢◌, ◌⊎◌, ◌↔◌, List, [], ◌∷◌, length, IfOk, IsTrue, Err};
 ghost use Rattle.grammar.specs.Fields.{Kind, Value, Means, AllMean, AreAtFault, IsFieldFault, IsFirstFault};
 ghost use Rattle.grammar.specs.declared.fault.LineFault.{LineFault};

@@ -1,3 +1,5 @@
+//! The trait `Grammar`: what a keyword and the texts after it say.
+
 ghost use Rattle.std.specs.Prelude.{◌≡◌, ◌≢◌, ℕ, List, IfOk, Err};
 ghost use Rattle.grammar.specs.declared.fault.LineFault.{LineFault};
 

@@ -1,3 +1,6 @@
+//! The kinds of fields: `Between`, `LongBetween`, `Source`, `OnePeer`, `Payload`, `Random`,
+//! `Networks` and `AddrClasses`.
+
 ghost use Rattle.std.specs.Prelude.{⊤};
 ghost use Rattle.grammar.specs.Fields.{Number, OfAddr, OfPeer, Hex, Random, TheNumber, TheAddr, ThePeer, Nets, Classes, TheBytes, TheWords, TheNets};
 

@@ -1,3 +1,5 @@
+//! Laws: a field has one value; and the limits of random words.
+
 ghost use Rattle.std.specs.Prelude.{◌≡◌, ℕ, List};
 ghost use Rattle.grammar.specs.Fields.{Kind, Value, Means, IsDefinite, IsFieldFault};
 ghost use Rattle.grammar.specs.declared.fault.LineFault.{LineFault};

@@ -1,3 +1,5 @@
+//! Reads a set of networks or classes: `all`, or names with commas between them.
+
 ghost use Rattle.std.specs.Prelude.{◌≡◌, List, codes, IfOk, IfSome, IfNone, IsTrue, Err};
 ghost use Rattle.grammar.specs.Fields.{Means, Nets, Classes, TheNets, AreNames, IsFieldFault, set_of};
 ghost use Rattle.net_addr.specs.declared.net.Net as net;

@@ -1,3 +1,5 @@
+//! Cuts a text at a separator: `cut_piece` and `after_byte`.
+
 ghost use Rattle.std.specs.Prelude.{◌≡◌, ◌≢◌, ℕ, List, ◌<◌, ◌≤◌, ◌==◌, ◌++◌, ◌∷◌, length, All, IfSome, IfNone};
 ghost use Rattle.std.specs.List.{slice_split};
 ghost use Rattle.grammar.specs.Words.{pieces_after};

@@ -1,3 +1,6 @@
+//! Reads random words: `-`, numbers with commas, or `@S:N`. Its limits are `MAX_SEEDED` and
+//! `MAX_WORDS_TEXT`.
+
 ghost use Rattle.std.specs.Prelude.{◌≡◌, ◌≤◌, ◌<◌, ◌^◌, ◌⊎◌, ◌∷◌, ℕ, List, codes, length, IfOk, IsTrue, Ok, Err};
 ghost use Rattle.grammar.specs.Fields.{AreWords, AreNumbers, AreSeeded};
 ghost use Rattle.random_words.specs.Seeded.{seeded_words};

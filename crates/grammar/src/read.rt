@@ -1,3 +1,5 @@
+//! The reader over any grammar: `read_line`, `read_said` and `read_texts`.
+
 ghost use Rattle.std.specs.Prelude.{◌≡◌, ◌≢◌, ◌<◌, ◌↔◌, ◌⊎◌, ℕ, List, get_or, IfOk, IfSome, Some, None, Ok, Err};
 ghost use Rattle.host_io.specs.Lines.{IsPassedOver};
 ghost use Rattle.grammar.specs.Words.{fields_of};

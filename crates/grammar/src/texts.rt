@@ -1,3 +1,6 @@
+//! The trait `Texts`: the fields of a line between spaces, or the arguments of a program; and
+//! `cut_field`.
+
 ghost use Rattle.std.specs.Prelude.{◌≡◌, ℕ, List, [], ◌∷◌, map, string_bytes, IfSome, IfNone, ◌<◌, ◌≤◌, length};
 ghost use Rattle.grammar.specs.Words.{fields_of, texts_after};
 

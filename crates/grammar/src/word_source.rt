@@ -1,3 +1,5 @@
+//! `WordSource`: random words as a line gives them, a list or a seed.
+
 use crate::random::seeded_words;
 use crate::{MAX_SEEDED, Words};
 use random_words::Draws;

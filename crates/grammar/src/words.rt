@@ -1,3 +1,5 @@
+//! `Words`: random words in memory.
+
 ghost use Rattle.std.specs.Prelude.{◌≡◌, ◌<◌, ◌^◌, length, vec_len};
 
 use std::marker::Model;

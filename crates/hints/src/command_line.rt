@@ -1,6 +1,10 @@
+//! Which argument is wrong (`usage_hint`), the options of `risk` and `show`, and the options that
+//! name files.
+
 use crate::keyword_fields::{expected_text, explain, unknown_keyword};
 use crate::log_line::{SET, set_text};
-use crate::options::{explain_options, wrong_option};
+use crate::option_names::{before_command, rare_option};
+use crate::options::{explain_options, missing_value, wrong_option};
 use crate::syntax::Reader;
 use arguments::MAX_MARKS;
 use risk_parts::parse_set;
@@ -28,7 +32,7 @@ fn is_flag(form: &str, word: &str) -> bool {
 const ANCHORS_FORM: &str = "show --anchors [--net CHAIN]";
 
 /// What is said of `risk -` with `--raw -`.
-const ONE_INPUT: &str = "risk -: not beside --raw -, since standard input has the listing";
+const ONE_INPUT: &str = "risk - cannot be combined with --raw -: both read standard input";
 
 /// Returns how many of the arguments after `risk` are `--core` and `--raw -`, which are before what
 /// makes records one group.
@@ -107,14 +111,14 @@ fn picture_hint(alloc: Global, form: &'static str, words: &[String]) -> Result<S
     if has_by(options) {
         return String::from_str(
             alloc,
-            "--mark: not beside --by, since colours have one meaning",
+            "--mark cannot be combined with --by: both choose the colours",
         );
     }
     let sets = words.get(index.saturating_add(1)..).unwrap_or(&[]);
-    if sets.is_empty() {
-        return format!(in alloc; "--mark: expected {SET}");
-    }
     for set in sets {
+        if set.as_str() == "--mark" {
+            return String::from_str(alloc, "--mark is given twice");
+        }
         if parse_set(set.as_bytes()).is_none() {
             let said = set_text(alloc, set.as_bytes())?;
             return format!(in alloc; "--mark: {}", said.as_str());
@@ -122,77 +126,11 @@ fn picture_hint(alloc: Global, form: &'static str, words: &[String]) -> Result<S
     }
     if sets.len() > MAX_MARKS {
         return format!(in alloc;
-            "--mark: there are at most {MAX_MARKS} sets, not {}",
+            "--mark: at most {MAX_MARKS} sets are allowed, not {}",
             sets.len()
         );
     }
     format!(in alloc; "expected \"{form}\"")
-}
-
-/// An option that few commands have, and these.
-struct RareOption {
-    flag: &'static str,
-    commands: &'static str,
-}
-
-/// The options that few commands have.
-static RARE_OPTIONS: [RareOption; 10] = [
-    RareOption {
-        flag: "--peers",
-        commands: "show, picture, raw, info, groups, risk and diff",
-    },
-    RareOption {
-        flag: "--asmap",
-        commands: "picture, raw, info, groups, risk, from-raw, diff, check, lookup, decompile \
-                   and address",
-    },
-    RareOption {
-        flag: "--anchors",
-        commands: "show",
-    },
-    RareOption {
-        flag: "--bans",
-        commands: "banned and bans",
-    },
-    RareOption {
-        flag: "--raw",
-        commands: "picture, info, groups and risk",
-    },
-    RareOption {
-        flag: "--by",
-        commands: "picture",
-    },
-    RareOption {
-        flag: "--mark",
-        commands: "picture",
-    },
-    RareOption {
-        flag: "--exempt",
-        commands: "opener",
-    },
-    RareOption {
-        flag: "--services",
-        commands: "opener",
-    },
-    RareOption {
-        flag: "--skip-bad-ports",
-        commands: "opener",
-    },
-];
-
-/// Returns the option of other commands, if an argument is one.
-fn rare_option(form: &str, words: &[String]) -> Option<&'static RareOption> {
-    for option in &RARE_OPTIONS {
-        for word in words {
-            let begins = word.as_str().strip_prefix(option.flag);
-            if !form.contains(option.flag)
-                && begins.is_some_and(|rest| rest.is_empty() || rest.starts_with("="))
-            {
-                return Some(option);
-            }
-        }
-    }
-    None
 }
 
 /// Returns what the arguments of a command are read as.
@@ -213,23 +151,23 @@ pub fn usage_hint(alloc: Global, words: &[String]) -> Result<String, AllocError>
     let Some((command, rest)) = words.split_first() else {
         return String::from_str(
             alloc,
-            "expected a command, as in addrman lookup 1.2.3.4:8333",
+            "expected a command, for example addrman lookup 1.2.3.4:8333",
         );
     };
     if command.as_str().starts_with("-") {
-        return String::from_str(
-            alloc,
-            "expected [-C DIR] COMMAND before other options, as in addrman show --net CHAIN",
-        );
+        return before_command(alloc, command.as_str());
     }
     if let Some(form) = Reader::Arguments.find_form(command.as_bytes()) {
         if let Some(option) = rare_option(form, rest) {
             return format!(in alloc;
-                "{} is no option of {}, but of {}",
+                "{} is not an option of {}, only of {}",
                 option.flag,
                 command.as_str(),
                 option.commands
             );
+        }
+        if let Some(text) = missing_value(alloc, form, rest)? {
+            return Ok(text);
         }
         if form.starts_with("risk ") {
             return risk_hint(alloc, form, rest);
@@ -237,19 +175,19 @@ pub fn usage_hint(alloc: Global, words: &[String]) -> Result<String, AllocError>
         if form.starts_with("picture ") {
             return picture_hint(alloc, form, rest);
         }
-        if let [first, options @ ..] = rest
-            && first.as_str() == "--anchors"
-        {
-            return explain_options(alloc, ANCHORS_FORM, options);
+        if let [first, options @ ..] = rest {
+            if first.as_str() == "--anchors" {
+                return explain_options(alloc, ANCHORS_FORM, options);
+            }
         }
         if form.contains("--") {
             return explain_options(alloc, form, after_flag(form, rest));
         }
     }
-    if command.as_str() == "help"
-        && let [name] = rest
-    {
-        return unknown_keyword(alloc, Reader::Arguments, name.as_bytes());
+    if command.as_str() == "help" {
+        if let [name] = rest {
+            return unknown_keyword(alloc, Reader::Arguments, name.as_bytes());
+        }
     }
     let mut fields = Vec::new(alloc);
     for word in rest {

@@ -1,3 +1,5 @@
+//! The usual errors in addresses, peers, subnets and names (`USUAL`).
+
 /// An error that people often make in an address, a peer, a subnet or a name.
 #[derive(Clone, Copy)]
 enum Usual {
@@ -7,6 +9,7 @@ enum Usual {
     Name,
     LongFour,
     LongSix,
+    Scheme,
     Subnet,
     Label,
     NoBrackets,
@@ -19,46 +22,43 @@ enum Usual {
 
 /// The errors, the texts in whose place they are looked for (`A` an address, `P` a peer, `S` a
 /// subnet, `N` a subnet after `--core`, `T` any text that `address` reads), and what is said.
-static USUAL: [(Usual, &str, &str); 15] = [
-    (Usual::Zone, "APSNT", "an address has no zone"),
+static USUAL: [(Usual, &str, &str); 16] = [
+    (Usual::Zone, "APSNT", "a zone such as %eth0 is not allowed"),
     (Usual::OldName, "APSNT", "Tor v2 names are no longer in use"),
     (
         Usual::WrongName,
         "NT",
         "its letters or its checksum are wrong",
     ),
-    (Usual::Name, "AP", "names are read by addrman address alone"),
-    (Usual::Name, "S", "names are read with --core"),
-    (Usual::Label, "N", "with --core it is a name"),
+    (Usual::Name, "AP", "only addrman address reads names"),
+    (Usual::Name, "S", "names need --core"),
+    (Usual::Label, "N", "with --core, write it as a name"),
+    (Usual::LongFour, "SN", "an IPv4 prefix length is at most 32"),
+    (Usual::LongSix, "SN", "an IPv6 prefix length is at most 128"),
     (
-        Usual::LongFour,
-        "SN",
-        "the length of an IPv4 subnet is at most 32",
+        Usual::Scheme,
+        "APSNT",
+        "leave out what comes before the address",
     ),
-    (
-        Usual::LongSix,
-        "SN",
-        "the length of an IPv6 subnet is at most 128",
-    ),
-    (Usual::Subnet, "APT", "a subnet is no address"),
+    (Usual::Subnet, "APT", "an address cannot contain /"),
     (
         Usual::NoBrackets,
         "P",
-        "an IPv6 address before a port is in brackets",
+        "an IPv6 address with a port needs brackets",
     ),
     (
         Usual::Brackets,
         "SN",
-        "a subnet has no brackets and no port",
+        "a subnet takes neither brackets nor a port",
     ),
     (
         Usual::LargePart,
         "APSNT",
-        "a part of an IPv4 address is at most 255",
+        "each part of an IPv4 address is at most 255",
     ),
     (Usual::LargePort, "PT", "a port is at most 65535"),
-    (Usual::NoPort, "P", "no port"),
-    (Usual::Port, "ASN", "a port is too much here"),
+    (Usual::NoPort, "P", "the port is missing"),
+    (Usual::Port, "ASN", "a port is not allowed here"),
 ];
 
 /// Returns which usual error a text has, if it has one. It is none of the texts of this kind.
@@ -83,6 +83,7 @@ impl Usual {
             }
             Usual::LongFour => count_of(text, b':') == 0 && number_after(text, b'/') > 32,
             Usual::LongSix => count_of(text, b':') > 0 && number_after(text, b'/') > 128,
+            Usual::Scheme => text.windows(3).any(|part| part == b"://".as_slice()),
             Usual::Subnet => count_of(text, b'/') > 0,
             Usual::Label => {
                 text.starts_with(b"onion:")

@@ -1,3 +1,5 @@
+//! Which call on a file or stream failed, and why.
+
 use crate::files::Paths;
 use host_io::{Failure, Tried};
 use std::alloc::{AllocError, Global};
@@ -14,15 +16,15 @@ pub fn failure_hint(
     if is_in_use {
         return String::from_str(
             alloc,
-            "the folder is in use: another program is saving there",
+            "the directory is in use: another program is saving there",
         );
     }
     let name = match failure.name {
         Some(name) => paths.text_of(name),
-        None => "the folder",
+        None => "the directory",
     };
     if failure.error.kind() == ErrorKind::InvalidInput {
-        return format!(in alloc; "{name} is no regular file");
+        return format!(in alloc; "{name} is not a regular file");
     }
     format!(in alloc;
         "{name} cannot be {}: {}",
@@ -43,10 +45,13 @@ fn past_of(tried: Tried) -> &'static str {
     }
 }
 
+/// The number of the error EISDIR of a call on a directory.
+const IS_A_DIRECTORY: i32 = 21;
+
 /// Says why a standard stream failed: `input` or `output`.
 pub fn stream_hint(alloc: Global, stream: &str, error: io::Error) -> Result<String, AllocError> {
-    match error.kind() {
-        ErrorKind::IsADirectory => { format!(in alloc; "standard {stream} is a folder, or closed") }
-        _ => format!(in alloc; "standard {stream}: {error}"),
+    if error.raw_os_error() == Some(IS_A_DIRECTORY) {
+        return format!(in alloc; "standard {stream} is a directory, or closed");
     }
+    format!(in alloc; "standard {stream}: {error}")
 }

@@ -1,3 +1,5 @@
+//! `Wanted`: what a name in a form means, such as `PEER` or `TIME`.
+
 use crate::common_errors::usual_error;
 use ban_list::{BanRule, parse_subnet_by};
 use gen_load::MAX_LINES;
@@ -41,7 +43,7 @@ static NAMES: [Wanted; 19] = [
     Wanted {
         name: "ADDR",
         kind: Kind::Addr,
-        text: "ADDR, as 1.2.3.4 or [2001:470::1]",
+        text: "ADDR, such as 1.2.3.4 or [2001:470::1]",
     },
     Wanted {
         name: "BYTES",
@@ -51,7 +53,7 @@ static NAMES: [Wanted; 19] = [
     Wanted {
         name: "CLASSES",
         kind: Kind::Classes,
-        text: "all, or names of networks or unroutable, as ipv4,unroutable",
+        text: "all, or a list of networks and unroutable, such as ipv4,unroutable",
     },
     Wanted {
         name: "CONNECTION",
@@ -81,7 +83,7 @@ static NAMES: [Wanted; 19] = [
     Wanted {
         name: "NETS",
         kind: Kind::Networks,
-        text: "all, or some of ipv4, ipv6, onion, i2p, cjdns and internal, as ipv4,onion",
+        text: "all, or some of ipv4, ipv6, onion, i2p, cjdns and internal, such as ipv4,onion",
     },
     Wanted {
         name: "NOW",
@@ -91,7 +93,7 @@ static NAMES: [Wanted; 19] = [
     Wanted {
         name: "PEER",
         kind: Kind::Peer,
-        text: "ADDR:PORT, as 1.2.3.4:8333 or [2001:470::1]:8333",
+        text: "ADDR:PORT, such as 1.2.3.4:8333 or [2001:470::1]:8333",
     },
     Wanted {
         name: "PERCENT",
@@ -111,7 +113,7 @@ static NAMES: [Wanted; 19] = [
     Wanted {
         name: "SUBNET",
         kind: Kind::Subnet,
-        text: "a subnet, as 1.2.3.0/24 or 2001:470::/32",
+        text: "a subnet, such as 1.2.3.0/24 or 2001:470::/32",
     },
     Wanted {
         name: "T",
@@ -121,7 +123,7 @@ static NAMES: [Wanted; 19] = [
     Wanted {
         name: "TEXT",
         kind: Kind::Text,
-        text: "an address or a name, as 1.2.3.4, 2001:470::1 or NAME.onion",
+        text: "an address or a name, such as 1.2.3.4, 2001:470::1 or NAME.onion",
     },
     Wanted {
         name: "UNTIL",
@@ -131,7 +133,7 @@ static NAMES: [Wanted; 19] = [
     Wanted {
         name: "W",
         kind: Kind::Words,
-        text: "random words, as 7,8 or @SEED:COUNT, or - for none",
+        text: "random words such as 7,8 or @SEED:COUNT, or - for none",
     },
 ];
 

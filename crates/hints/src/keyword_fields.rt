@@ -1,3 +1,5 @@
+//! Which field after a keyword is wrong, and which keyword is nearest by edits.
+
 use crate::field_kinds::find_wanted;
 use crate::quoting::quoted;
 use crate::syntax::{Reader, keyword_of};
@@ -6,7 +8,7 @@ use std::alloc::{AllocError, Global};
 use strsim::levenshtein;
 
 /// What is said of a text that `lookup` does not read.
-pub(crate) const LOOKUP: &str = "; addrman address reads addresses without a port, and names";
+pub(crate) const LOOKUP: &str = "; for a name, or an address without a port, use addrman address";
 
 /// What is wrong with texts, and which of them it is in.
 #[derive(Drop)]
@@ -37,7 +39,7 @@ pub(crate) fn explain(
         }
     }
     let more = if form.ends_with("UNTIL") {
-        ", with UNTIL after NOW"
+        ", with UNTIL later than NOW"
     } else {
         ""
     };
@@ -103,21 +105,17 @@ fn other_count(
     fields: &[&[u8]],
 ) -> Result<String, AllocError> {
     if keyword_of(form) == "limit" {
-        return String::from_str(alloc, "limit reads its log from standard input, as < FILE");
+        return String::from_str(alloc, "limit reads its log from standard input: use < FILE");
     }
     if has_empty(fields) {
-        return format!(in alloc; "expected one space before each field, as in \"{form}\"");
+        return format!(in alloc; "expected one space before each field: \"{form}\"");
     }
     let what = if reader == Reader::Arguments || reader == Reader::CoreBans {
         "arguments"
     } else {
         "fields"
     };
-    format!(in alloc;
-        "expected \"{form}\"; {what} after {}: {}",
-        keyword_of(form),
-        fields.len()
-    )
+    format!(in alloc; "expected \"{form}\"; {what} given: {}", fields.len())
 }
 
 /// Returns `true` if a field is empty.
@@ -139,20 +137,20 @@ pub(crate) fn unknown_keyword(
     if let Some(other) = reader.that_knows(keyword) {
         // The keyword is one of a table, so it is short and has no other byte.
         let name = str::from_utf8(keyword).unwrap_or("");
-        return format!(in alloc; "{name} is a line of {}", other.command());
+        return format!(in alloc; "{name} belongs in a log for {}", other.command());
     }
     let shown = quoted(alloc, keyword)?;
     let what = reader.keyword_name();
-    let mut text = format!(in alloc; "{} is no {what}", shown.as_str())?;
+    let mut text = format!(in alloc; "{} is not a {what}", shown.as_str())?;
     if let Some(name) = in_lower_case(alloc, reader, keyword)? {
-        text.push_str("; it is written in lower case: ")?;
+        text.push_str("; write it in lower case: ")?;
         text.push_str(name)?;
     } else if let Some(name) = nearest(alloc, reader.forms(), keyword)? {
         text.push_str("; did you mean ")?;
         text.push_str(name)?;
         text.push_str("?")?;
     } else if reader == Reader::Arguments {
-        text.push_str("; addrman help lists them")?;
+        text.push_str("; addrman help lists the commands")?;
     }
     Ok(text)
 }

@@ -14,6 +14,7 @@ mod files;
 mod keyword_fields;
 mod log_line;
 mod noted_folder;
+mod option_names;
 mod options;
 mod peers_dat;
 mod prefixes_txt;
@@ -24,7 +25,9 @@ mod syntax;
 pub use anchors_dat::anchors_hint;
 pub use command_line::usage_hint;
 pub use failures::stream_hint;
-pub use files::{ANCHORS, Paths, asmap_hint, bans_hint, compile_hint, missing_hint, place_hint};
+pub use files::{
+    ANCHORS, Paths, asmap_hint, bans_hint, compile_hint, missing_hint, place_hint, tilde_hint,
+};
 pub use keyword_fields::expected_text;
 pub use log_line::line_hint;
 pub use noted_folder::{NotedFolder, Saves};

@@ -1,3 +1,5 @@
+//! What is wrong with a line of a log, and in which column.
+
 use crate::common_errors::usual_error;
 use crate::files::{MARKED, is_marked};
 use crate::keyword_fields::{expected_text, explain};
@@ -27,11 +29,10 @@ pub fn line_hint(
     if command == b"risk".as_slice() {
         return set_hint(alloc, line);
     }
-    let fields = fields_of(alloc, line)?;
     if command == b"lookup".as_slice() || command == b"address".as_slice() {
-        let wrong = explain(alloc, Reader::Arguments, command, fields.as_slice())?;
-        return Ok(wrong.text);
+        return address_hint(alloc, command, line);
     }
+    let fields = fields_of(alloc, line)?;
     let Some(reader) = Reader::of_log(command) else {
         return Ok(String::new(alloc));
     };
@@ -43,9 +44,24 @@ pub fn line_hint(
     format!(in alloc; "column {column}: {}", wrong.text.as_str())
 }
 
+/// Says what is wrong with a line for `lookup -` or `address -`, which has one address.
+fn address_hint(alloc: Global, command: &[u8], line: &[u8]) -> Result<String, AllocError> {
+    let space = line.iter().position(|byte| *byte == b' ');
+    match space {
+        Some(index) if command == b"lookup".as_slice() => {
+            let column = index.saturating_add(1);
+            format!(in alloc; "column {column}: expected one peer per line, without spaces")
+        }
+        _ => {
+            let wrong = explain(alloc, Reader::Arguments, command, &[line])?;
+            format!(in alloc; "column 1: {}", wrong.text.as_str())
+        }
+    }
+}
+
 /// What is said of a set of addresses.
 pub(crate) const SET: &str =
-    "a prefix, as 1.2.0.0/16 or 2001:470::/32, an address, or an AS number, as AS64500";
+    "a prefix such as 1.2.0.0/16 or 2001:470::/32, an address, or an AS number such as AS64500";
 
 /// Says what is wrong with a text that is that of no set of addresses.
 pub(crate) fn set_text(alloc: Global, text: &[u8]) -> Result<String, AllocError> {

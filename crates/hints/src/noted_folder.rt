@@ -1,4 +1,6 @@
-ghost use Rattle.std.specs.Prelude.{◌≡◌, ◌≤◌, length, IfSome, IsNone};
+//! `NotedFolder`: a folder that counts saves and reports those that failed.
+
+ghost use Rattle.std.specs.Prelude.{◌≡◌, ◌≤◌, length, IfSome, IsNone, None};
 ghost use Rattle.std.proofs.Props.{props};
 
 use crate::failures::failure_hint;
@@ -145,6 +147,8 @@ impl<'a, R: AllocGlobal + Eprint, F: Folder + KeepsFailure> Folder for NotedFold
     ghost past = { λ f. F.past f.folder };
 
     ghost faults = { λ f. F.faults f.folder };
+
+    ghost calls = { λ _. None };
 
     fn size(&mut self, name: Name) -> Result<Option<u64>, Failed> {
         match self.listing_as(name) {

@@ -1,12 +1,20 @@
-use crate::keyword_fields::expected_text;
+//! What is wrong with an option or its value: the key, the chain, the magic.
+
+use crate::keyword_fields::{expected_text, nearest};
+use crate::log_line::SET;
+use crate::option_names::unknown_option;
 use crate::peers_dat::CHAINS;
 use crate::quoting::quoted;
 use crate::syntax::keyword_of;
 use grammar::{read_decimal, read_nets};
+use risk_parts::parse_set;
 use std::alloc::{AllocError, Global};
 
 /// What the colours of a picture go by.
 static COLOURINGS: [&str; 4] = ["network", "source", "group", "age"];
+
+/// The argument that stands for the value of an option, if it has none.
+const NO_VALUE: &str = "--";
 
 /// How many hexadecimal digits a key has.
 const KEY_DIGITS: usize = 64;
@@ -23,19 +31,21 @@ enum Name {
     Core,
     Raw,
     By,
+    Mark,
     Exempt,
     Services,
     SkipBadPorts,
 }
 
 /// All options.
-static NAMES: [Name; 9] = [
+static NAMES: [Name; 10] = [
     Name::Key,
     Name::Net,
     Name::Magic,
     Name::Core,
     Name::Raw,
     Name::By,
+    Name::Mark,
     Name::Exempt,
     Name::Services,
     Name::SkipBadPorts,
@@ -58,6 +68,7 @@ impl Name {
             Name::Core => "--core",
             Name::Raw => "--raw",
             Name::By => "--by",
+            Name::Mark => "--mark",
             Name::Exempt => "--exempt",
             Name::Services => "--services",
             Name::SkipBadPorts => "--skip-bad-ports",
@@ -79,10 +90,11 @@ impl Name {
             Name::Net => "main, test, testnet4, signet or regtest",
             Name::Magic => "8 hexadecimal digits",
             Name::Core | Name::SkipBadPorts => "",
-            Name::Raw => "-, which is standard input",
+            Name::Raw => "- (standard input)",
             Name::By => "network, source, group or age",
+            Name::Mark => SET,
             Name::Exempt => {
-                "all, or some of ipv4, ipv6, onion, i2p, cjdns and internal, as ipv4,onion"
+                "all, or some of ipv4, ipv6, onion, i2p, cjdns and internal, such as ipv4,onion"
             }
             Name::Services => "a number below 2^64",
         }
@@ -95,7 +107,7 @@ impl Name {
 }
 
 /// What is said of `--core` and `--raw -` together.
-const NO_SUM: &str = "--core: not beside --raw, since a listing has no checksum";
+const NO_SUM: &str = "--core cannot be combined with --raw: a listing has no checksum";
 
 /// Says which of the arguments after the name of a command is wrong. After the name its form has
 /// only options.
@@ -125,7 +137,7 @@ pub(crate) fn wrong_option(
         let name = given.name;
         if pending.is_none() {
             if names.contains(&name) {
-                return Ok(Some(format!(in alloc; "{} comes twice", name.text())?));
+                return Ok(Some(format!(in alloc; "{} is given twice", name.text())?));
             }
             names.push(name)?;
         }
@@ -141,9 +153,34 @@ pub(crate) fn wrong_option(
         };
     }
     match pending {
-        Some(name) => Ok(Some(format!(in alloc; "{}: expected {}", name.text(), name.wanted())?)),
+        Some(name) => Ok(Some(missing_text(alloc, name)?)),
         None => Ok(None),
     }
+}
+
+/// Says that the value of an option is missing.
+fn missing_text(alloc: Global, name: Name) -> Result<String, AllocError> {
+    format!(in alloc; "{}: expected {}", name.text(), name.wanted())
+}
+
+/// Says which option lacks its value, or returns `None` if none does.
+pub(crate) fn missing_value(
+    alloc: Global,
+    form: &'static str,
+    words: &[String],
+) -> Result<Option<String>, AllocError> {
+    let mut pending = None;
+    for word in words {
+        let given = option_of(form, word.as_str());
+        match (pending, given) {
+            (Some(name), _) if word.as_str() == NO_VALUE => {
+                return Ok(Some(missing_text(alloc, name)?));
+            }
+            (_, Some(Given { name, value: None })) if name.has_value() => pending = Some(name),
+            _ => pending = None,
+        }
+    }
+    Ok(None)
 }
 
 /// Returns what an argument gives: the value of an option before it, or an option of the form.
@@ -208,6 +245,7 @@ fn explain_value(alloc: Global, name: Name, value: &str) -> Result<Option<String
         Name::Magic => value.len() == MAGIC_DIGITS && is_hex(value),
         Name::Raw => value == "-",
         Name::By => COLOURINGS.contains(&value),
+        Name::Mark => parse_set(value.as_bytes()).is_some(),
         Name::Exempt => read_nets(value.as_bytes()).is_ok(),
         Name::Services => read_decimal(value.as_bytes(), u64::MAX).is_some(),
         _ => is_chain(value),
@@ -215,8 +253,27 @@ fn explain_value(alloc: Global, name: Name, value: &str) -> Result<Option<String
     if is_right {
         return Ok(None);
     }
-    let said = expected_text(alloc, name.wanted(), value.as_bytes(), "")?;
-    Ok(Some(format!(in alloc; "{}: {}", name.text(), said.as_str())?))
+    let mut said = format!(in alloc; "{}: ", name.text())?;
+    said.push_str(expected_text(alloc, name.wanted(), value.as_bytes(), "")?.as_str())?;
+    if let (Name::Net, Some(chain)) = (name, similar_chain(alloc, value)?) {
+        said.push_str("; did you mean ")?;
+        said.push_str(chain)?;
+        said.push_str("?")?;
+    }
+    Ok(Some(said))
+}
+
+/// Returns the chain that a text is another name of, or nearly the name of.
+fn similar_chain(alloc: Global, value: &str) -> Result<Option<&'static str>, AllocError> {
+    let mut names = Vec::new(alloc);
+    for (_, name) in &CHAINS {
+        names.push(*name)?;
+    }
+    match value {
+        "mainnet" => Ok(Some("main")),
+        "testnet" | "testnet3" => Ok(Some("test")),
+        _ => nearest(alloc, names.as_slice(), value.as_bytes()),
+    }
 }
 
 /// Returns `true` if a text is the name of a chain.
@@ -242,10 +299,10 @@ fn is_hex(text: &str) -> bool {
 /// Returns what is wrong with a key besides its length.
 fn key_error(digits: &str) -> Option<&'static str> {
     if digits.starts_with("0x") {
-        return Some(", and a key has no 0x");
+        return Some("; leave out the 0x");
     }
     if !is_hex(digits) {
-        return Some(", and not all are such digits");
+        return Some(", not all of them hexadecimal digits");
     }
     if digits.len() != KEY_DIGITS {
         return Some("");
@@ -253,30 +310,34 @@ fn key_error(digits: &str) -> Option<&'static str> {
     None
 }
 
-/// Says that the form has no such option.
+/// Says that the form has no such option. A key is not shown.
 fn no_option(alloc: Global, form: &'static str, word: &str) -> Result<String, AllocError> {
     let command = keyword_of(form);
+    if word.len() == KEY_DIGITS && is_hex(word) {
+        return format!(in alloc; "a key comes after --key; expected \"{form}\"");
+    }
+    if word.starts_with("-") && word != "-" {
+        return unknown_option(alloc, form, word);
+    }
     let shown = quoted(alloc, word.as_bytes())?;
     let shown = shown.as_str();
-    if word.starts_with("--") && form.contains(word) {
-        return format!(in alloc; "{shown} comes once, and not here; expected \"{form}\"");
-    }
     let input = match command {
         "replay" | "opener" => "log",
         "from-raw" => "listing",
         _ => "",
     };
-    if !word.starts_with("-") && !input.is_empty() {
+    if !input.is_empty() {
         return format!(in alloc;
-            "{shown} is no option: {command} reads its {input} from standard input, as < FILE"
+            "{shown} is not an option: {command} reads its {input} from standard input, so use < \
+             FILE"
         );
     }
     let file = if is_path(word) {
-        ", which reads another file with --peers FILE"
+        "; to read another file, use --peers FILE"
     } else {
         ""
     };
-    format!(in alloc; "{shown} is no option of {command}{file}; expected \"{form}\"")
+    format!(in alloc; "{shown} is not an option of {command}{file}; expected \"{form}\"")
 }
 
 /// Returns `true` if an argument looks like the path of a file.

@@ -1,24 +1,25 @@
-use crate::files::{PACKED, is_packed};
+//! What is wrong with `peers.dat`: the chain, the format, a record, or a duplicate.
+
+use crate::files::packed_text;
 use net_addr::put_hex;
 use peer_rec::{MAX_BUCKETS, MAX_NEW, MAX_TRIED};
-use peers_file::{FileFault, MAX_FILE, RecordCause, Which};
+use peers_file::{Chain, FileFault, MAX_FILE, RecordCause, Which};
 use std::alloc::{AllocError, Global};
 
-/// The first bytes of the files of the chains (`pchMessageStart` in kernel/chainparams.cpp of
-/// Bitcoin Core).
-pub(crate) static CHAINS: [([u8; 4], &str); 5] = [
-    ([0xf9, 0xbe, 0xb4, 0xd9], "main"),
-    ([0x0b, 0x11, 0x09, 0x07], "test"),
-    ([0x1c, 0x16, 0x3f, 0x28], "testnet4"),
-    ([0x0a, 0x03, 0xcf, 0x40], "signet"),
-    ([0xfa, 0xbf, 0xb5, 0xda], "regtest"),
+/// The chains that have a name, and their names.
+pub(crate) static CHAINS: [(Chain, &str); 5] = [
+    (Chain::Main, "main"),
+    (Chain::Test, "test"),
+    (Chain::Testnet4, "testnet4"),
+    (Chain::Signet, "signet"),
+    (Chain::Regtest, "regtest"),
 ];
 
 /// Says what is wrong with peers.dat, which begins with these bytes: which chain and which format
 /// it has, and the fault.
 pub fn peers_hint(alloc: Global, fault: &FileFault, head: &[u8]) -> Result<String, AllocError> {
-    if is_packed(head) {
-        return String::from_str(alloc, PACKED);
+    if let Some(said) = packed_text(head) {
+        return String::from_str(alloc, said);
     }
     let mut text = head_text(alloc, head)?;
     text.push_str(fault_text(alloc, fault, head)?.as_str())?;
@@ -28,15 +29,15 @@ pub fn peers_hint(alloc: Global, fault: &FileFault, head: &[u8]) -> Result<Strin
 /// Says which record of peers.dat, which begins with these bytes, has the peer of an earlier one.
 pub fn duplicate_hint(alloc: Global, index: u32, head: &[u8]) -> Result<String, AllocError> {
     let mut text = head_text(alloc, head)?;
-    let said = format!(in alloc; "record {index} has the peer of an earlier one")?;
+    let said = format!(in alloc; "record {index} has the same peer as an earlier record")?;
     text.push_str(said.as_str())?;
     Ok(text)
 }
 
 /// Returns the chain whose files begin with these bytes.
 pub(crate) fn chain_of(head: &[u8]) -> Option<&'static str> {
-    for (magic, name) in &CHAINS {
-        if head.starts_with(magic) {
+    for (chain, name) in &CHAINS {
+        if head.starts_with(&chain.magic()) {
             return Some(*name);
         }
     }
@@ -56,28 +57,41 @@ fn head_text(alloc: Global, head: &[u8]) -> Result<String, AllocError> {
 /// Says what the fault is.
 fn fault_text(alloc: Global, fault: &FileFault, head: &[u8]) -> Result<String, AllocError> {
     match fault {
-        FileFault::Truncated => String::from_str(alloc, "its bytes end too early: copy it again"),
+        FileFault::Truncated => String::from_str(alloc, "the file ends too early: copy it again"),
         FileFault::BadMagic => magic_text(alloc, head),
-        FileFault::BadSum => String::from_str(alloc, "it was cut off or changed: copy it again"),
+        FileFault::BadSum => String::from_str(
+            alloc,
+            "the file was truncated or changed: copy it again",
+        ),
         FileFault::Compat { byte } => {
-            format_text(alloc, "the compat byte is from 32 to 36", *byte, 36)
+            format_text(alloc, "the compat byte must be from 32 to 36", *byte, 36)
         }
-        FileFault::Version { byte } => format_text(alloc, "formats 1 to 4 are read", *byte, 4),
+        FileFault::Version { byte } => format_text(
+            alloc,
+            "only formats 1 to 4 can be read",
+            *byte,
+            4,
+        ),
         FileFault::Count { which, value } => count_text(alloc, *which, *value),
         FileFault::Record { index, cause } => record_text(alloc, *index, *cause),
         FileFault::Buckets { value } => {
-            format!(in alloc; "there are at most {MAX_BUCKETS} buckets, not {value}")
+            format!(in alloc; "it claims {value} buckets; at most {MAX_BUCKETS} are allowed")
         }
         FileFault::Time { index } => {
             format!(in alloc;
-                "record {index} has a last success outside of 0 to {}",
+                "the last success of record {index} is not from 0 to {}",
                 u32::MAX
             )
         }
-        FileFault::Attempts { index } => format!(in alloc; "record {index} has tries below 0"),
-        FileFault::Trailing => String::from_str(alloc, "bytes are left after the last field"),
+        FileFault::Attempts { index } => format!(in alloc;
+            "record {index} has a negative number of attempts"
+        ),
+        FileFault::Trailing => String::from_str(
+            alloc,
+            "there are extra bytes after the last field",
+        ),
         FileFault::TooLarge { size } => {
-            format!(in alloc; "there are at most {MAX_FILE} bytes, not {size}")
+            format!(in alloc; "it has {size} bytes; at most {MAX_FILE} are allowed")
         }
         FileFault::Memory => Ok(String::new(alloc)),
     }
@@ -95,14 +109,20 @@ fn is_as_peers(head: &[u8]) -> bool {
 /// Says of which chain a file is that has another one's first bytes.
 fn magic_text(alloc: Global, head: &[u8]) -> Result<String, AllocError> {
     match chain_of(head) {
-        Some(chain) => format!(in alloc; "another chain was asked for; --net {chain} reads it"),
+        Some(chain) => format!(in alloc; "it belongs to another chain: use --net {chain}"),
         None if !is_as_peers(head) => {
-            String::from_str(alloc, "it does not begin as a peers.dat of any chain")
+            String::from_str(alloc, "it does not begin like a peers.dat of any chain")
         }
         None => {
             let mut text = Vec::new(alloc);
             let first = head.get(..4).unwrap_or(head);
-            if put_hex(b"no chain has its first bytes: --magic ", first, &mut text).is_err() {
+            if put_hex(
+                b"its first bytes are of no known chain; to read it, use --magic ",
+                first,
+                &mut text,
+            )
+            .is_err()
+            {
                 return Err(AllocError);
             }
             text.extend_from_slice(b" reads it")?;
@@ -124,9 +144,11 @@ fn format_text(alloc: Global, read: &str, byte: u8, max: u8) -> Result<String, A
 /// Says how many records of a table there are.
 fn count_text(alloc: Global, which: Which, value: i32) -> Result<String, AllocError> {
     match which {
-        Which::New => format!(in alloc; "there are at most {MAX_NEW} new records, not {value}"),
+        Which::New => format!(in alloc;
+            "it claims {value} new records; at most {MAX_NEW} are allowed"
+        ),
         Which::Tried => format!(in alloc;
-            "there are at most {MAX_TRIED} tried records, not {value}"
+            "it claims {value} tried records; at most {MAX_TRIED} are allowed"
         ),
     }
 }
@@ -134,10 +156,10 @@ fn count_text(alloc: Global, which: Which, value: i32) -> Result<String, AllocEr
 /// Says what is wrong with the record of an index.
 fn record_text(alloc: Global, index: u32, cause: RecordCause) -> Result<String, AllocError> {
     let said = match cause {
-        RecordCause::Version => "is laid out in the way of another format",
-        RecordCause::NonCanonical => "has a CompactSize of more bytes than its number needs",
-        RecordCause::BadLength => "has an address that is not as long as those of its network",
-        RecordCause::TooLong => "has an address of more than 512 bytes",
+        RecordCause::Version => "has the layout of another format",
+        RecordCause::NonCanonical => "has a CompactSize longer than necessary",
+        RecordCause::BadLength => "has an address of the wrong length for its network",
+        RecordCause::TooLong => "has an address longer than 512 bytes",
     };
     format!(in alloc; "record {index} {said}")
 }

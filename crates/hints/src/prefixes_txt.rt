@@ -1,5 +1,7 @@
+//! What is wrong with a row of `prefixes.txt`.
+
 use crate::common_errors::usual_error;
-use crate::files::{MARKED, PACKED, is_marked, is_packed};
+use crate::files::{MARKED, is_marked, packed_text};
 use crate::keyword_fields::expected_text;
 use crate::quoting::quoted;
 use ban_list::{parse_subnet, put_subnet};
@@ -12,8 +14,8 @@ const MAX_ROW: usize = 1000;
 
 /// Says what is wrong with prefixes.txt, which has this text and this fault.
 pub fn table_hint(alloc: Global, fault: &TableFault, text: &[u8]) -> Result<String, AllocError> {
-    if is_packed(text) {
-        return String::from_str(alloc, PACKED);
+    if let Some(said) = packed_text(text) {
+        return String::from_str(alloc, said);
     }
     match fault {
         TableFault::Form { line } | TableFault::Number { line } => {
@@ -21,9 +23,9 @@ pub fn table_hint(alloc: Global, fault: &TableFault, text: &[u8]) -> Result<Stri
         }
         TableFault::HostBits { line } => host_bits_hint(alloc, line_at(text, *line)),
         TableFault::Repeated { line } => repeated_hint(alloc, *line, text),
-        TableFault::TooMany => format!(in alloc; "there are at most {MAX_ROWS} rows"),
+        TableFault::TooMany => format!(in alloc; "it has more than {MAX_ROWS} rows"),
         TableFault::TooLarge { size } => {
-            format!(in alloc; "there are at most {MAX_TEXT} bytes, not {size}")
+            format!(in alloc; "it has {size} bytes; at most {MAX_TEXT} are allowed")
         }
         TableFault::Memory => Ok(String::new(alloc)),
     }
@@ -44,7 +46,7 @@ fn row_hint(alloc: Global, number: u32, row: &[u8]) -> Result<String, AllocError
         return String::from_str(alloc, "the line ends with a carriage return");
     }
     let Some(space) = row.iter().position(|byte| *byte == b' ') else {
-        return expected_text(alloc, "a row, as 1.2.0.0/16 AS6", row, "");
+        return expected_text(alloc, "a row such as 1.2.0.0/16 AS6", row, "");
     };
     let (prefix, asn) = row.split_at(space);
     if is_row(alloc, prefix, b" AS1")? {
@@ -59,7 +61,7 @@ fn prefix_hint(alloc: Global, prefix: &[u8]) -> Result<String, AllocError> {
         return String::from_str(alloc, "column 1: the line begins with a space");
     }
     let usual = usual_error("S", prefix).unwrap_or("");
-    let expected = "a prefix, as 1.2.0.0/16 or 2001:470::/32";
+    let expected = "a prefix such as 1.2.0.0/16 or 2001:470::/32";
     let said = expected_text(alloc, expected, prefix, usual)?;
     format!(in alloc; "column 1: {}", said.as_str())
 }
@@ -98,7 +100,7 @@ fn host_bits_hint(alloc: Global, row: &[u8]) -> Result<String, AllocError> {
     let end = row.iter().position(|byte| *byte == b' ').unwrap_or(0);
     let (prefix, asn) = row.split_at(end);
     let Some(subnet) = parse_subnet(prefix) else {
-        return String::from_str(alloc, "the bits after the prefix have to be 0");
+        return String::from_str(alloc, "the bits after the prefix must be 0");
     };
     let mut meant = Vec::new(alloc);
     if put_subnet(&subnet, &mut meant).is_err() {
@@ -106,7 +108,7 @@ fn host_bits_hint(alloc: Global, row: &[u8]) -> Result<String, AllocError> {
     }
     meant.extend_from_slice(asn)?;
     let shown = quoted(alloc, meant.as_slice())?;
-    format!(in alloc; "the row that is meant is {}", shown.as_str())
+    format!(in alloc; "did you mean {}?", shown.as_str())
 }
 
 /// Says which earlier line has the prefix of a row.

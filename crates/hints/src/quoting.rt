@@ -1,3 +1,5 @@
+//! A text in quotation marks, cut after 40 bytes.
+
 use std::alloc::{AllocError, Global};
 
 /// The maximum number of bytes of a text that are shown.

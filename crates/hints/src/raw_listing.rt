@@ -1,10 +1,12 @@
-use crate::files::{PACKED, is_packed, json_hint};
+//! `listing_hint`: why a listing is refused, and what it has to be.
+
+use crate::files::{json_hint, packed_text};
 use raw_file::ListingFault;
 use raw_read::{Field, MAX_TEXT, RawFault};
 use std::alloc::{AllocError, Global};
 
 /// What a listing is.
-const LISTING: &str = "expected what bitcoin-cli getrawaddrman prints, or addrman raw";
+const LISTING: &str = "expected the output of bitcoin-cli getrawaddrman or addrman raw";
 
 /// Says why a listing is refused, which has this text.
 pub fn listing_hint(
@@ -29,8 +31,8 @@ pub fn listing_hint(
 
 /// Says why a text is no JSON, or nests too deep.
 fn no_json(alloc: Global, text: &[u8]) -> Result<String, AllocError> {
-    if is_packed(text) {
-        return String::from_str(alloc, PACKED);
+    if let Some(said) = packed_text(text) {
+        return String::from_str(alloc, said);
     }
     json_hint(alloc, text, LISTING)
 }
@@ -39,13 +41,13 @@ fn no_json(alloc: Global, text: &[u8]) -> Result<String, AllocError> {
 fn fixed_text(fault: &ListingFault) -> &'static str {
     match fault {
         ListingFault::Text(RawFault::Form) =>
-            "expected an object with an object each under new and tried, as getrawaddrman prints \
-             it",
+            "expected an object with the two objects new and tried, as getrawaddrman prints it",
         ListingFault::Text(RawFault::Slot { .. }) =>
-            "a member is named by its slot, as 1023/63, and they come by rising slots; \
-             new has 1024 buckets, tried 256, each 64 positions",
+            "members are named BUCKET/POSITION, such as 1023/63, in rising order; new has 1024 \
+             buckets and tried 256, of 64 positions each",
         ListingFault::Again { .. } =>
-            "a peer is in one table, once in a bucket, and its slots say the same of it",
+            "a peer may be in only one table and once per bucket, and its slots must agree about \
+             it",
         _ => "",
     }
 }
@@ -53,10 +55,10 @@ fn fixed_text(fault: &ListingFault) -> &'static str {
 /// Returns what a field of a record has to be.
 fn field_text(field: Field) -> &'static str {
     match field {
-        Field::Address => "an address or a name as text under address",
+        Field::Address => "an address or a name, as a string, under address",
         Field::Port => "a number from 0 to 65535 under port",
         Field::Services => "a number below 2^64 under services",
         Field::Time => "a number from 0 to 4294967295 under time",
-        Field::Source => "an address or a name as text under source",
+        Field::Source => "an address or a name, as a string, under source",
     }
 }

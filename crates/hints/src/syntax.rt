@@ -1,3 +1,5 @@
+//! The forms of commands and of lines as texts (`COMMANDS`, `LINES`), and `Reader`.
+
 /// The forms of the command line, one a command.
 static COMMANDS: [&str; 24] = [
     "replay [--key HEX64] [--net CHAIN] [--core]",

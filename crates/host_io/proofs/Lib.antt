@@ -1,4 +1,5 @@
 pub mod Appending
+pub mod Asking
 pub mod Changes
 mod DiskExamples
 mod Examples

@@ -3,7 +3,7 @@
 --
 -- They are said name by name. A crash may leave any mix of what each name may have, so a renamed
 -- file may be at both of its names or at neither. A real disk leaves fewer folders, and what is
--- proved of all of these holds of those.
+-- proved of all of these holds of those. The rules are our own, after `fsync(2)` and `rename(2)`.
 use Rattle.std.specs.Prelude.{◌≡◌, ◌⊎◌, ℕ, Bool, true, false, List, [], ◌∷◌, ◌++◌, take, Option, Some, None, IsSome}
 use Rattle.std.specs.Option.{option_map}
 use Rattle.host_io.specs.Files.{Files}
@@ -26,6 +26,7 @@ pub record DiskEntry : Type 0 where
 abbrev pub safe : Option (List ℕ) → DiskEntry
 safe bytes = record { file = bytes; is_torn = false; is_loose = false; others = [] }
 
+-- A disk: an entry for each name of the folder.
 abbrev pub Disk : Type 0
 Disk = PerName DiskEntry
 
@@ -46,10 +47,12 @@ abbrev pub AllowsOne : List Fate → Option (List ℕ) → Type 0
 AllowsOne [] found = ⊥
 AllowsOne (fate ∷ fates) found = Allows fate found ⊎ AllowsOne fates found
 
+-- The fate that leaves this at the name: no file, or a file with exactly these bytes.
 abbrev pub exactly : Option (List ℕ) → Fate
 exactly None = Absent
 exactly (Some bytes) = Exactly bytes
 
+-- The fates, and one more before them if a condition holds.
 abbrev pub onto_if : Bool → Fate → List Fate → List Fate
 onto_if true fate fates = fate ∷ fates
 onto_if false fate fates = fates
@@ -113,19 +116,24 @@ settled entry = record entry { is_loose = false; others = [] }
 
 -- HOW A CALL CHANGES THE FOLDER: a name that it does not touch stays.
 
+-- The disk after `create` of a name.
 abbrev pub after_create : Name → Disk → Disk
 after_create name disk = with disk name created
 
+-- The disk after `append` of bytes to the file of a name.
 abbrev pub after_append : Name → List ℕ → Disk → Disk
 after_append name bytes disk = with disk name (appended bytes (under disk name))
 
+-- The disk after `sync` of the file of a name.
 abbrev pub after_sync : Name → Disk → Disk
 after_sync name disk = with disk name (synced (under disk name))
 
+-- The disk after `rename` of one name to another.
 abbrev pub after_rename : Name → Name → Disk → Disk
 after_rename from to disk =
     with (with disk to (target (under disk from) (under disk to))) from (left (under disk from))
 
+-- The disk after `sync_dir`, which concerns every name.
 abbrev pub after_sync_dir : Disk → Disk
 after_sync_dir disk = each settled disk
 

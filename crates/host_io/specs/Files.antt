@@ -1,4 +1,5 @@
--- The files of a folder, each under one of a few names.
+-- The files of a folder, each under one of a few names. They are a record by name, so that two
+-- folders compare as values.
 use Rattle.std.specs.Prelude.{ℕ, List, Option, None, Some, IsSome, IfSome}
 use Rattle.host_io.specs.PerName.{under}
 use Rattle.host_io.specs.declared.name.Name.{Name}

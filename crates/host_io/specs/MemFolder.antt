@@ -1,5 +1,5 @@
 -- A folder in memory: what it had at first, its changes, and which of its calls fail.
-use Rattle.std.specs.Prelude.{◌≡◌, ◌==◌, ℕ, List, [], ◌∷◌, ◌++◌, Bool, true, false, Option, Some, IsSome, find, ◌⊎◌}
+use Rattle.std.specs.Prelude.{◌≡◌, ◌==◌, ℕ, List, [], ◌∷◌, ◌++◌, Bool, true, false, Option, Some, IsSome, find, map, ◌⊎◌}
 use Rattle.std.specs.Option.{option_map}
 use Rattle.host_io.specs.Disk.{Disk, after_append, after_create, after_rename, after_sync, after_sync_dir, files_on, safe}
 use Rattle.host_io.specs.Faults.{raised}
@@ -120,3 +120,7 @@ FailsToChange old action change new =
     ((next_fault old ≡ Some false) × (new ≡ folder_after_fault old action))
     ⊎ ((next_fault old ≡ Some true) × (new ≡ folder_after_late_fault old action change))
     ⊎ (new ≡ folder_after_no_memory old)
+
+-- The calls that it recorded.
+abbrev pub calls_of : FolderState → Option (List Action)
+calls_of folder = Some (map (λ (call : Call). call.action) folder.history)

@@ -1,7 +1,10 @@
--- What contracts know of a folder until now.
-use Rattle.std.specs.Prelude.{◌≡◌, ◌⊎◌, List, [], ◌∷◌, ◌++◌, Option, Some, None}
+-- What contracts know of a folder until now. "Unchanged" is then an equation of two pasts, and "at
+-- every moment since" speaks of a list of disks.
+use Rattle.std.specs.Prelude.{◌≡◌, ◌⊎◌, List, [], ◌∷◌, ◌++◌, Option, Some, None, IfSome, true}
 use Rattle.host_io.specs.Disk.{Disk, files_on}
 use Rattle.host_io.specs.Files.{Files}
+use Rattle.host_io.specs.PerName.{under}
+use Rattle.host_io.specs.declared.name.Name.{Name}
 
 -- The disk now, and before each call that may have changed it, the last one first.
 pub record Past : Type 0 where
@@ -16,6 +19,11 @@ moments past = past.now ∷ past.before
 abbrev pub files_of : Option Past → Option Files
 files_of None = None
 files_of (Some past) = Some (files_on past.now)
+
+-- The file of this name was created since the folder was synced last, if contracts know the files.
+-- No answer of a folder tells that, so who has to show it has to have created the file.
+abbrev pub IsNew : Option Past → Name → Type 0
+IsNew past name = IfSome past (λ p. (under p.now name).is_loose ≡ true)
 
 -- The past after one moment more.
 abbrev pub later : Disk → Past → Past

@@ -1,3 +1,5 @@
+//! What a folder in memory records of each call: `Call`, `Action` and `Change`.
+
 use crate::list::Bytes;
 use crate::name::Name;
 

@@ -1,3 +1,6 @@
+//! `DirFolder`, the real current directory, with `flock`, permission bits, `fsync`, `rename` and
+//! open files.
+
 ghost use Rattle.std.specs.Prelude.{◌≡◌, ◌≢◌, ℕ, ◌<◌, ◌≤◌, length, IfOk, OnOk, OnErr, None};
 ghost use Rattle.host_io.specs.declared.name.Name.{Name};
 ghost use Rattle.host_io.specs.Faults.{Rose, raised};
@@ -58,6 +61,8 @@ pub struct DirFolder<'a, R: Files> {
 struct Open<T> {
     name: Name,
     file: T,
+    /// Its size in bytes when it was opened.
+    size: u64,
 }
 
 impl<'a, R: Files> Model for DirFolder<'a, R> {
@@ -110,7 +115,7 @@ impl<'a, R: Files + Alloc> DirFolder<'a, R> {
         self.open = None;
         match open_regular(self.rt, name.file_name()) {
             Ok((file, size)) => {
-                self.open = Some(Open { name, file });
+                self.open = Some(Open { name, file, size });
                 Ok(Some(size))
             }
             Err(error) if error.kind() == ErrorKind::NotFound => Ok(None),
@@ -118,7 +123,8 @@ impl<'a, R: Files + Alloc> DirFolder<'a, R> {
         }
     }
 
-    /// Reads once from the file, from offset `at` on. Opens it unless it is open.
+    /// Reads once from the file, from offset `at` on. Opens it unless it is open. After the size that
+    /// it had when it was opened there is nothing, so that no offset makes this fail.
     fn read_open(&mut self, name: Name, at: u64, buf: &mut [u8]) -> io::Result<usize>
         ensures within { IfOk result (λ n. n ≤ length buf.old) }
         ensures same { self.new ≡ self.old }
@@ -127,6 +133,7 @@ impl<'a, R: Files + Alloc> DirFolder<'a, R> {
             self.reopen(name)?;
         }
         match &mut self.open {
+            Some(open) if open.size < at => Ok(0),
             Some(open) => read_at(&mut open.file, at, buf),
             None => Err(io::Error::from(ErrorKind::NotFound)),
         }
@@ -223,7 +230,11 @@ where
         self.is_in_use = false;
         self.lock_folder()?;
         let file = create_new(self.rt, name)?;
-        self.written = Some(Open { name, file });
+        self.written = Some(Open {
+            name,
+            file,
+            size: 0,
+        });
         Ok(())
     }
 }
@@ -235,6 +246,8 @@ where
     ghost past = { λ _. None };
 
     ghost faults = { λ f. f };
+
+    ghost calls = { λ _. None };
 
     /// Opens the file, keeps it open and returns its length, or `None` if no file has this name.
     /// Each other error is a fault, and so is anything of this name that is not a regular file.
@@ -250,7 +263,8 @@ where
         }
     }
 
-    /// Reads once from the open file, or from one that is opened for this. Each error is a fault.
+    /// Reads once from the open file, or from one that is opened for this. Each error is a fault. An
+    /// offset after its size at opening is its end.
     fn read(&mut self, name: Name, at: u64, buf: &mut [u8]) -> Result<usize, Failed>
         requires { 0 < length buf.old }
         ensures within { IfOk result (λ n. n ≤ length buf.old) }

@@ -1,3 +1,5 @@
+//! A file in memory with all that a crash may leave at its name: `Fate` and `DirEntry`.
+
 ghost use Rattle.std.specs.Prelude.{◌≡◌, IfOk, ◌<◌, ◌≤◌, [], ◌++◌, OnOk, vec_len};
 ghost use Rattle.host_io.specs.Disk.{Allows, MayHave, appended, created, exactly, fates, file_fates, left, safe, settled, synced, target};
 ghost use Rattle.std.specs.Option.{option_map};

@@ -1,8 +1,12 @@
+//! Calls that fail: `Failed`, `ReadFault` and `Failure`, the count of faults, and `FailingCalls`,
+//! which says which calls of an object in memory fail.
+
 ghost use Rattle.host_io.specs.declared.failed.ReadFault.TheVariants as fault;
 ghost use Rattle.std.specs.Prelude.{◌≡◌, ◌≤◌, ◌↔◌, Contains, IsErr, IfOk, OnOk, OnErr};
 ghost use Rattle.host_io.specs.Faults.{Rose, StillCountHasNotRisen, raised};
 
 use crate::name::Name;
+use memory::Memory;
 use std::alloc::{AllocError, Global};
 use std::io;
 
@@ -24,16 +28,6 @@ pub(crate) fn fault(faults: &mut u64) -> Failed
 pub fn still_count_has_not_risen()
     ensures { StillCountHasNotRisen }
 {}
-
-/// Out of memory.
-#[derive(Clone, Copy, PartialEq, Eq, Debug)]
-pub struct Memory;
-
-impl From<AllocError> for Memory {
-    fn from(_: AllocError) -> Memory {
-        Memory
-    }
-}
 
 /// Why bytes are not read.
 #[derive(Clone, Copy)]

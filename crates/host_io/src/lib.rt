@@ -1,8 +1,9 @@
 //! The outside of a program: where bytes come from, where they go, and a folder of files.
 //!
 //! Contracts see of a `Source` the bytes that are left, of a `Sink` those written, and of a
-//! `Folder` its files, what a crash may leave of them, and how both were before each call; of each,
-//! how often its calls have failed. They know these of the objects in memory, not of the adapters.
+//! `Folder` its files, what a crash may leave of them, how both were before each call, and the
+//! calls; of each, how often its calls have failed. They know these of the objects in memory, not
+//! of the adapters.
 //! A vector that contracts see as the list of its items is a `ListOf`.
 //!
 //! Proved:
@@ -34,11 +35,12 @@ mod source;
 
 pub use call::{Action, Call};
 pub use dir_folder::{DirFolder, Lock};
-pub use failed::{Failed, Failure, Memory, ReadFault, Tried, still_count_has_not_risen};
+pub use failed::{Failed, Failure, ReadFault, Tried, still_count_has_not_risen};
 pub use folder::{Folder, SureFolder};
 pub use lines::{LINE_FEED, is_passed_over, split_line};
 pub use list::{Bytes, ListOf};
 pub use mem_folder::MemFolder;
+pub use memory::Memory;
 pub use name::{NAMES, Name, PerName};
 pub use reading::{PIECE, read_past, room};
 pub use sink::{MemSink, Sink, StdSink, SureSink, write_all};

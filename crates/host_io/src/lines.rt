@@ -1,3 +1,6 @@
+//! Lines of a text: `split_line`, `LINE_FEED`, and whether a line is passed over because it is
+//! empty or a comment that begins with `#`.
+
 ghost use Rattle.std.specs.Prelude.{◌≡◌, ◌≢◌, ◌+◌, ◌<◌, ◌≤◌, ◌↔◌, ◌⊎◌, [], ◌∷◌, ◌++◌, length, take, drop, slice_index, All, IsTrue};
 ghost use Rattle.host_io.specs.Lines.{IsPassedOver, lines_of};
 

@@ -1,3 +1,5 @@
+//! `ListOf` and `Bytes`: a vector that contracts see as the list of its items.
+
 ghost use Rattle.std.specs.Prelude.{◌≡◌};
 
 use std::marker::Model;

@@ -1,3 +1,6 @@
+//! `MemDisk`, the disk of a folder in memory, and the image that a crash with a given choice
+//! leaves.
+
 ghost use Rattle.std.specs.Prelude.{◌≡◌, ◌<◌, [], IfOk, OnOk, OnErr};
 ghost use Rattle.host_io.specs.Disk.{IsImage, MayHave, after_sync_dir, files_on, safe};
 ghost use Rattle.host_io.specs.MemFolder.{after_change, disk_of, log_with};

@@ -1,19 +1,23 @@
+//! `MemFolder`: a folder in memory with its history, the calls that fail, and `crash`.
+
 ghost use Rattle.std.specs.Prelude.{◌≡◌, ◌≢◌, ◌<◌, ◌≤◌, ◌++◌, [], length, min, take, drop, IsErr, IsSome, IfOk, IfSome, OnOk, OnErr, Some, None};
 ghost use Rattle.std.specs.Option.{option_map};
+ghost use Rattle.host_io.specs.Calls.{MayAddCall, with_call};
 ghost use Rattle.host_io.specs.Disk.{IsImage, Partly, PartlyAppended, after_append, after_create, after_rename, after_sync, after_sync_dir};
 ghost use Rattle.host_io.specs.Faults.{Rose};
-ghost use Rattle.host_io.specs.MemFolder.{FailsToChange, FailsWithoutChange, after_change, disk_of, files_in, folder_after_call, folder_after_change, folder_after_no_memory, log_with, next_fault, past_of};
+ghost use Rattle.host_io.specs.MemFolder.{FailsToChange, FailsWithoutChange, after_change, calls_of, disk_of, files_in, folder_after_call, folder_after_change, folder_after_no_memory, log_with, next_fault, past_of};
 ghost use Rattle.host_io.specs.Past.{after, AfterFault};
 ghost use Rattle.host_io.specs.PerName.{under};
 ghost use Rattle.host_io.specs.declared.call.Change.TheVariants as change;
 ghost use Rattle.host_io.specs.declared.name.Name.{Name};
 
 use crate::call::{Action, Call, Change};
-use crate::failed::{Failed, Memory, fault};
+use crate::failed::{Failed, fault};
 use crate::folder::Folder;
 use crate::list::Bytes;
 use crate::mem_disk::MemDisk;
 use crate::name::{Name, PerName};
+use memory::Memory;
 use std::alloc::Global;
 use std::marker::Model;
 
@@ -169,6 +173,7 @@ impl MemFolder {
     fn starve(&mut self) -> Failed
         ensures after { self.new ≡ folder_after_no_memory self.old }
         ensures cause { Rose self.old.faults self.new.faults }
+        ensures forgotten { calls_of self.new ≡ calls_of self.old }
         ensures never_falls { self.old.faults ≤ self.new.faults }
     {
         self.calls = self.calls.saturating_add(1);
@@ -177,10 +182,13 @@ impl MemFolder {
     }
 
     /// Counts and records a call. Fails if there is no memory.
+    #[tactic(auto, using(crate::proofs::Asking::called, crate::proofs::Asking::not_called))]
     fn record(&mut self, action: Action) -> Result<(), Failed>
         ensures ok { OnOk result (self.new ≡ folder_after_call self.old action) }
         ensures err { OnErr result (self.new ≡ folder_after_no_memory self.old) }
         ensures cause { OnErr result (Rose self.old.faults self.new.faults) }
+        ensures asked { OnOk result (calls_of self.new ≡ with_call action (calls_of self.old)) }
+        ensures forgotten { OnErr result (calls_of self.new ≡ calls_of self.old) }
         ensures never_falls { self.old.faults ≤ self.new.faults }
     {
         let number = self.calls;
@@ -192,7 +200,7 @@ impl MemFolder {
     }
 
     /// Counts and records a call, and makes its change. Fails if there is no memory.
-    #[tactic(auto, using(crate::proofs::Changes::late, crate::proofs::Changes::moved, crate::proofs::Changes::stayed))]
+    #[tactic(auto, using(crate::proofs::Changes::late, crate::proofs::Changes::moved, crate::proofs::Changes::stayed, crate::proofs::Asking::called, crate::proofs::Asking::changed, crate::proofs::Asking::not_called, crate::proofs::Asking::not_changed))]
     fn record_change(&mut self, action: Action, change: Change) -> Result<(), Failed>
         ensures ok { OnOk result (self.new ≡ folder_after_change self.old action change) }
         ensures err { OnErr result (self.new ≡ folder_after_no_memory self.old) }
@@ -201,6 +209,8 @@ impl MemFolder {
         ensures partly { OnErr result (AfterFault (Partly (after_change change))
             (Some (past_of self.old.log)) (Some (past_of self.new.log))) }
         ensures cause { OnErr result (Rose self.old.faults self.new.faults) }
+        ensures asked { OnOk result (calls_of self.new ≡ with_call action (calls_of self.old)) }
+        ensures forgotten { OnErr result (calls_of self.new ≡ calls_of self.old) }
         ensures never_falls { self.old.faults ≤ self.new.faults }
     {
         if self.history.reserve(1).is_err() {
@@ -217,11 +227,14 @@ impl MemFolder {
 
     /// Makes a call that changes nothing. Fails if the call was chosen to, or if there is no
     /// memory.
+    #[tactic(auto, using(crate::proofs::Asking::called, crate::proofs::Asking::not_called))]
     fn begin(&mut self, action: Action) -> Result<(), Failed>
         ensures chosen { IsSome (next_fault self.old) → IsErr result }
         ensures ok { OnOk result (self.new ≡ folder_after_call self.old action) }
         ensures err { OnErr result (FailsWithoutChange self.old action self.new) }
         ensures cause { OnErr result (Rose self.old.faults self.new.faults) }
+        ensures asked { OnOk result (calls_of self.new ≡ with_call action (calls_of self.old)) }
+        ensures tried { OnErr result (MayAddCall action (calls_of self.old) (calls_of self.new)) }
         ensures never_falls { self.old.faults ≤ self.new.faults }
     {
         match self.next_fault() {
@@ -234,7 +247,7 @@ impl MemFolder {
     }
 
     /// Makes a call that makes a change. Fails if the call was chosen to, or if there is no memory.
-    #[tactic(auto, using(crate::proofs::Changes::late, crate::proofs::Changes::moved, crate::proofs::Changes::stayed))]
+    #[tactic(auto, using(crate::proofs::Changes::late, crate::proofs::Changes::moved, crate::proofs::Changes::stayed, crate::proofs::Asking::called, crate::proofs::Asking::changed, crate::proofs::Asking::not_called, crate::proofs::Asking::not_changed))]
     fn carry_out(&mut self, action: Action, change: Change) -> Result<(), Failed>
         ensures chosen { IsSome (next_fault self.old) → IsErr result }
         ensures ok { OnOk result (self.new ≡ folder_after_change self.old action change) }
@@ -244,6 +257,8 @@ impl MemFolder {
         ensures partly { OnErr result (AfterFault (Partly (after_change change))
             (Some (past_of self.old.log)) (Some (past_of self.new.log))) }
         ensures cause { OnErr result (Rose self.old.faults self.new.faults) }
+        ensures asked { OnOk result (calls_of self.new ≡ with_call action (calls_of self.old)) }
+        ensures tried { OnErr result (MayAddCall action (calls_of self.old) (calls_of self.new)) }
         ensures never_falls { self.old.faults ≤ self.new.faults }
     {
         match self.next_fault() {
@@ -275,6 +290,8 @@ impl Folder for MemFolder {
 
     ghost faults = { λ f. f.faults };
 
+    ghost calls = { λ f. calls_of f };
+
     /// Fails if the call was chosen to, or if there is no memory for its record.
     fn size(&mut self, name: Name) -> Result<Option<u64>, Failed>
         ensures chosen { IsSome (next_fault self.old) → IsErr result }
@@ -286,6 +303,10 @@ impl Folder for MemFolder {
         ensures err { OnErr result (FailsWithoutChange self.old (Action.Size name) self.new) }
         ensures same { self.new.log ≡ self.old.log }
         ensures cause { OnErr result (Rose self.old.faults self.new.faults) }
+        ensures asked { OnOk result
+            (calls_of self.new ≡ with_call (Action.Size name) (calls_of self.old)) }
+        ensures tried { OnErr result
+            (MayAddCall (Action.Size name) (calls_of self.old) (calls_of self.new)) }
         ensures never_falls { self.old.faults ≤ self.new.faults }
     {
         self.begin(Action::Size { name })?;
@@ -310,6 +331,10 @@ impl Folder for MemFolder {
         ensures err { OnErr result (FailsWithoutChange self.old (Action.Read name at) self.new) }
         ensures same { self.new.log ≡ self.old.log }
         ensures cause { OnErr result (Rose self.old.faults self.new.faults) }
+        ensures asked { OnOk result
+            (calls_of self.new ≡ with_call (Action.Read name at) (calls_of self.old)) }
+        ensures tried { OnErr result
+            (MayAddCall (Action.Read name at) (calls_of self.old) (calls_of self.new)) }
         ensures never_falls { self.old.faults ≤ self.new.faults }
     {
         self.begin(Action::Read { name, at })?;
@@ -331,6 +356,10 @@ impl Folder for MemFolder {
         ensures err { OnErr result (AfterFault (Partly (after_create name))
             (Some (past_of self.old.log)) (Some (past_of self.new.log))) }
         ensures cause { OnErr result (Rose self.old.faults self.new.faults) }
+        ensures asked { OnOk result
+            (calls_of self.new ≡ with_call (Action.Create name) (calls_of self.old)) }
+        ensures tried { OnErr result
+            (MayAddCall (Action.Create name) (calls_of self.old) (calls_of self.new)) }
         ensures never_falls { self.old.faults ≤ self.new.faults }
     {
         self.carry_out(Action::Create { name }, Change::Created { name })
@@ -350,6 +379,12 @@ impl Folder for MemFolder {
         ensures err { OnErr result (AfterFault (PartlyAppended name bytes.now)
             (Some (past_of self.old.log)) (Some (past_of self.new.log))) }
         ensures cause { OnErr result (Rose self.old.faults self.new.faults) }
+        ensures asked { OnOk result
+            (calls_of self.new
+            ≡ with_call (Action.Append name (length bytes.now)) (calls_of self.old)) }
+        ensures tried { OnErr result
+            (MayAddCall (Action.Append name (length bytes.now))
+            (calls_of self.old) (calls_of self.new)) }
         ensures never_falls { self.old.faults ≤ self.new.faults }
     {
         let Ok(copy) = bytes.to_vec(self.alloc) else {
@@ -376,6 +411,10 @@ impl Folder for MemFolder {
         ensures err { OnErr result (AfterFault (Partly (after_sync name))
             (Some (past_of self.old.log)) (Some (past_of self.new.log))) }
         ensures cause { OnErr result (Rose self.old.faults self.new.faults) }
+        ensures asked { OnOk result
+            (calls_of self.new ≡ with_call (Action.Sync name) (calls_of self.old)) }
+        ensures tried { OnErr result
+            (MayAddCall (Action.Sync name) (calls_of self.old) (calls_of self.new)) }
         ensures never_falls { self.old.faults ≤ self.new.faults }
     {
         self.carry_out(Action::Sync { name }, Change::Synced { name })
@@ -395,6 +434,10 @@ impl Folder for MemFolder {
         ensures err { OnErr result (AfterFault (Partly (after_rename from to))
             (Some (past_of self.old.log)) (Some (past_of self.new.log))) }
         ensures cause { OnErr result (Rose self.old.faults self.new.faults) }
+        ensures asked { OnOk result
+            (calls_of self.new ≡ with_call (Action.Rename from to) (calls_of self.old)) }
+        ensures tried { OnErr result
+            (MayAddCall (Action.Rename from to) (calls_of self.old) (calls_of self.new)) }
         ensures never_falls { self.old.faults ≤ self.new.faults }
     {
         self.carry_out(Action::Rename { from, to }, Change::Renamed { from, to })
@@ -412,6 +455,10 @@ impl Folder for MemFolder {
         ensures err { OnErr result (AfterFault (Partly after_sync_dir)
             (Some (past_of self.old.log)) (Some (past_of self.new.log))) }
         ensures cause { OnErr result (Rose self.old.faults self.new.faults) }
+        ensures asked { OnOk result
+            (calls_of self.new ≡ with_call Action.SyncDir (calls_of self.old)) }
+        ensures tried { OnErr result
+            (MayAddCall Action.SyncDir (calls_of self.old) (calls_of self.new)) }
         ensures never_falls { self.old.faults ≤ self.new.faults }
     {
         self.carry_out(Action::SyncDir, Change::FolderSynced)

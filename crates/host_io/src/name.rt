@@ -1,3 +1,6 @@
+//! `Name`, the names of the files (`peers.dat`, `peers.tmp`, `asmap.dat`, ..), and `PerName`, which
+//! holds a value for each.
+
 /// The names of the files of a folder. A file is first written under the temporary name after its
 /// own.
 #[derive(Clone, Copy, PartialEq, Eq, Debug)]

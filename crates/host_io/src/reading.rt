@@ -1,4 +1,8 @@
+//! `read_past` reads a file in pieces of at most `PIECE` (65,536) bytes, up to a limit and one byte
+//! more.
+
 ghost use Rattle.std.specs.Prelude.{◌≡◌, ◌+◌, ◌<◌, ◌≤◌, ◌++◌, length, take, drop, vec_len, IfOk, IfSome, IsErrOf};
+ghost use Rattle.host_io.specs.Calls.{IsReadOf, OnlyCalls};
 ghost use Rattle.host_io.specs.Faults.{Rose};
 ghost use Rattle.host_io.specs.Files.{IsThere, known_bytes};
 ghost use Rattle.host_io.specs.Past.{files_of};
@@ -20,6 +24,7 @@ pub fn room(alloc: Global) -> Result<Vec<u8>, AllocError>
 
 /// Appends the bytes of one read, from the offset `text.len()` on, to `text`. Returns how many they
 /// are; 0 is the end of the file.
+#[tactic(auto, using(crate::proofs::Asking::read_ok, crate::proofs::Asking::read_err))]
 fn read_piece<F: Folder>(
     folder: &mut F,
     name: Name,
@@ -28,6 +33,8 @@ fn read_piece<F: Folder>(
 ) -> Result<usize, ReadFault>
     requires room { 0 < length piece.old }
     requires there { IsThere (files_of (F.past folder.old)) name }
+    requires inside { IfSome (known_bytes (files_of (F.past folder.old)) name) (λ bytes.
+        vec_len text.old ≤ length bytes) }
     ensures appended { IfOk result (λ n.
         IfSome (known_bytes (files_of (F.past folder.old)) name) (λ bytes.
         text.new.items ≡ text.old.items ++ take n (drop (vec_len text.old) bytes))) }
@@ -40,6 +47,7 @@ fn read_piece<F: Folder>(
     ensures cause { IsErrOf result ReadFault.Failed →
         Rose (F.faults folder.old) (F.faults folder.new) }
     ensures never_falls { F.faults folder.old ≤ F.faults folder.new }
+    ensures asks { OnlyCalls (IsReadOf name) (F.calls folder.old) (F.calls folder.new) }
 {
     let count = folder.read(name, text.len() as u64, piece)?;
     text.extend_from_slice(&piece[..count])?;
@@ -47,6 +55,7 @@ fn read_piece<F: Folder>(
 }
 
 /// Returns the first `limit + 1` bytes of a file, or all of them if they are fewer.
+#[tactic(auto, using(crate::proofs::Asking::none, crate::proofs::Asking::reads_then))]
 pub fn read_past<F: Folder>(
     alloc: Global,
     folder: &mut F,
@@ -61,6 +70,7 @@ pub fn read_past<F: Folder>(
     ensures cause { IsErrOf result ReadFault.Failed →
         Rose (F.faults folder.old) (F.faults folder.new) }
     ensures never_falls { F.faults folder.old ≤ F.faults folder.new }
+    ensures asks { OnlyCalls (IsReadOf name) (F.calls folder.old) (F.calls folder.new) }
 {
     let mut piece = room(alloc)?;
     let mut text = Vec::new(alloc);

@@ -1,9 +1,13 @@
+//! The trait `Sink` of outputs with `write_all`, and three outputs: `StdSink`, `SureSink` and
+//! `MemSink`.
+
 ghost use Rattle.std.specs.Prelude.{◌≡◌, ℕ, ◌<◌, ◌≤◌, List, length, take, IfOk, IfNone, OnOk, OnErr, Option, None, IsOk, [], Contains, IsErr, Some};
 ghost use Rattle.host_io.specs.Faults.{Rose, raised};
 ghost use Rattle.host_io.specs.Writing.{Appended, AppendedPart};
 ghost use Rattle.host_io.specs.MemSink.{sink_after_write, sink_after_fault, sink_after_no_memory};
 
-use crate::failed::{Failed, FailingCalls, Memory, fault};
+use crate::failed::{Failed, FailingCalls, fault};
+use memory::Memory;
 use std::alloc::Global;
 use std::io;
 use std::io::{ErrorKind, Write};

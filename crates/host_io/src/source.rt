@@ -1,8 +1,12 @@
+//! The trait `Source` of inputs, and three inputs: `StdSource`, `SureSource`, and `MemSource`,
+//! which gives its bytes in pieces.
+
 ghost use Rattle.std.specs.Prelude.{◌≡◌, ℕ, ◌<◌, ◌≤◌, ◌↔◌, ◌++◌, List, [], length, take, drop, IfOk, IfSome, IfNone, OnErr, Option, OnOk, None, min, IsOk, Some, vec_len, Contains, IsErr};
 ghost use Rattle.host_io.specs.Faults.{Rose, raised};
 ghost use Rattle.host_io.specs.MemSource.{source_after_read, source_after_fault};
 
-use crate::failed::{Failed, FailingCalls, Memory, fault};
+use crate::failed::{Failed, FailingCalls, fault};
+use memory::Memory;
 use std::alloc::Global;
 use std::io;
 use std::io::Read;

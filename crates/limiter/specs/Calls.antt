@@ -7,6 +7,8 @@ use Rattle.limiter.specs.Tokens.{after_getaddr, refill, after_entries, admit_con
 use Rattle.limiter.specs.declared.limiter.Asked.{Asked}
 use Rattle.limiter.specs.declared.limiter.Asked.TheVariants.{Unknown, Already, Granted}
 
+-- The answer to a `getaddr` that is sent to a connection: it is granted once (`m_getaddr_sent` in
+-- net_processing.cpp of Bitcoin Core).
 abbrev pub asked_of : Option Conn → Asked
 asked_of None = Unknown
 asked_of (Some c) = if c.asked then Already else Granted

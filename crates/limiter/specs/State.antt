@@ -44,6 +44,7 @@ set_conn number (Some c) conns = with_conn c conns
 abbrev pub IsBounded : Conn → Type 0
 IsBounded c = c.tenths ≤ (if c.asked then 20000 else 10000)
 
+-- The tokens of all connections are bounded.
 abbrev pub AreBounded : List Conn → Type 0
 AreBounded conns = AllByRecursion IsBounded conns
 

@@ -1,3 +1,5 @@
+//! Finds, puts and removes a connection by its number in the map.
+
 ghost use Rattle.std.specs.Prelude.{◌≡◌, is_some, IfSome, OnOk, OnErr, option_map, option_copied};
 ghost use Rattle.limiter.specs.State.{new_conn, find_conn, with_conn, without_conn};
 ghost use Rattle.limiter.specs.Tokens.{refill, intake_count};

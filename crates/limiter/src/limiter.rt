@@ -1,3 +1,5 @@
+//! `Limiter`, `Conn` and `Asked`: `add_conn`, `close_conn`, `getaddr`, `admit` and `find`.
+
 use crate::Memory;
 use crate::connections::{admit_in, find_in, getaddr_in, put_in, remove_in};
 use indexmap::IndexMap;

@@ -1,3 +1,6 @@
+//! The arithmetic of tokens, in tenths: refill with time, spend, and a thousand tokens for a
+//! getaddr.
+
 ghost use Rattle.std.specs.Prelude.{◌≡◌, ◌≤◌, Some};
 ghost use Rattle.limiter.specs.Tokens.{refill, intake_count, admit_conn, after_getaddr};
 ghost use Rattle.limiter.specs.Calls.{asked_of};

@@ -1,4 +1,6 @@
 -- Why a record is in a bucket of the new table, and which buckets the sources of some groups reach.
+-- What a group reaches is the measure of Heilman, Kendler, Zohar and Goldberg, "Eclipse Attacks on
+-- Bitcoin's Peer-to-Peer Network" (2015).
 use Rattle.std.specs.Prelude.{◌≡◌, ◌⊎◌, ℕ, ◌*◌, List, [], ◌∷◌, length, flat_map, true, Contains, Option, Some, None}
 use Rattle.slot_grid.specs.declared.sizes.TheConstants.{NEW_BUCKETS}
 use Rattle.net_addr.specs.Address.{Address}

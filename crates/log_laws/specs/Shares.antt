@@ -1,4 +1,5 @@
--- What the groups of some addresses can do to a round of a search.
+-- What the groups of some addresses can do to a round of a search. The bounds are ours, after
+-- Heilman et al., "Eclipse Attacks on Bitcoin's Peer-to-Peer Network" (2015).
 use Rattle.std.specs.Prelude.{◌≡◌, ℕ, ◌<◌, ◌≤◌, ◌+◌, ◌*◌, ◌^◌, List, length, Bool, true, false, Contains, count_by, Option, Some}
 use Rattle.std.specs.List.{range_with_len}
 use Rattle.net_addr.specs.Address.{Address}

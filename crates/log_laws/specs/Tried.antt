@@ -1,4 +1,6 @@
--- When a record leaves the tried table.
+-- When a record leaves the tried table. That a record is tested before it makes way
+-- (`AddrManImpl::ResolveCollisions_` in addrman.cpp of Bitcoin Core) is a defence of Heilman et
+-- al., "Eclipse Attacks on Bitcoin's Peer-to-Peer Network" (2015).
 use Rattle.std.specs.Prelude.{◌≡◌, ◌≢◌, ◌⊎◌, ℕ, ◌+◌, ◌≤◌, List, false, true, Contains}
 use Rattle.placing.specs.Places.{tried_bucket, tried_slot}
 use Rattle.peer_rec.specs.Rec.{is_tried}

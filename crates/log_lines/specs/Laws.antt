@@ -36,25 +36,30 @@ command_by (Some v.SaveStep) (TheNumber count ∷ []) = c.SaveStep count
 command_by (Some v.SaveEnd) values = c.SaveEnd
 command_by other values = c.Size
 
+-- The keyword that a word is, if it is one.
 verb_with : List ℕ → Option CommandWord
 verb_with word = find (λ verb. bytes_eq (word_of verb) word) verbs
 
+-- The word of a keyword is this keyword.
 verb_back : (verb : CommandWord) → verb_with (word_of verb) ≡ Some verb
 unfolding verb_with
 verb_back v.Now = refl
 verb_back other = refl
 
+-- A command follows from its keyword and its values.
 command_back : (command : Command) →
     command_by (Some (verb_of command)) (command_values command) ≡ command
 unfolding command_by
 command_back (c.Now time) = refl
 command_back other = refl
 
+-- Two commands with one keyword and the same values are equal.
 same_command : (a b : Command) →
     Some (verb_of a) ≡ Some (verb_of b) → command_values a ≡ command_values b → a ≡ b
 same_command a b same values =
     sym (command_back a) ∙ (λ i. command_by (same i) (values i)) ∙ command_back b
 
+-- A text is at most one value of each kind of field that a keyword has.
 definite : (verb : CommandWord) → all_definite (kinds_of verb) ≡ true
 definite v.Now = refl
 definite other = refl

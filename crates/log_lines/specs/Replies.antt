@@ -42,6 +42,7 @@ tries_text r =
 abbrev pub rec_text : Rec → List ℕ
 rec_text r = origin_text r ++ seen_text r ++ tries_text r ++ place_text r.place
 
+-- The reply to `find`.
 abbrev pub found_text : Option Rec → List ℕ
 found_text None = codes "unknown"
 found_text (Some r) = rec_text r
@@ -56,12 +57,14 @@ fault_text msg.TooLong = codes "too-long"
 fault_text msg.Trailing = codes "trailing"
 fault_text msg.Memory = codes "out of memory"
 
+-- The reply to `good`.
 abbrev pub good_text : good.Good → List ℕ
 good_text good.TheVariants.Unknown = codes "unknown"
 good_text good.TheVariants.Already = codes "already"
 good_text good.TheVariants.Clash = codes "clash"
 good_text good.TheVariants.Moved = codes "moved"
 
+-- The reply of `attempt`, `connected` and `services`: whether the peer is known.
 abbrev pub known_text : Bool → List ℕ
 known_text true = codes "ok"
 known_text false = codes "unknown"
@@ -70,16 +73,19 @@ known_text false = codes "unknown"
 abbrev pub timed_text : List ℕ → Peer → ℕ → List ℕ
 timed_text word peer time = word ++ peer_text peer ++ codes " " ++ decimal time
 
+-- The reply to `select`.
 abbrev pub picked_text : picked.Picked → List ℕ
 picked_text (picked.TheVariants.One peer last_try) = timed_text (codes "one ") peer last_try
 picked_text picked.TheVariants.Nothing = codes "nothing"
 picked_text picked.TheVariants.Exhausted = codes "exhausted"
 
+-- The reply to `size`.
 abbrev pub size_text : Counts → List ℕ
 size_text counts =
     codes "size new " ++ decimal counts.new_count ++ codes " tried " ++ decimal counts.tried_count
     ++ codes " clashes " ++ decimal counts.clashes
 
+-- The reply to `resolve`.
 abbrev pub resolved_text : Resolved → List ℕ
 resolved_text r =
     codes "resolved erased " ++ decimal r.erased ++ codes " moved " ++ decimal r.moved
@@ -90,6 +96,7 @@ abbrev pub sample_text : List Peer → List ℕ
 sample_text peers =
     codes "sample " ++ decimal (length peers) ++ flat_map (λ p. codes " " ++ peer_text p) peers
 
+-- The reply to `clash`.
 abbrev pub clash_text : Option (Peer × ℕ) → List ℕ
 clash_text None = codes "none"
 clash_text (Some p) = timed_text (codes "clash ") p.0 p.1
@@ -99,6 +106,7 @@ abbrev pub dump_text : List Rec → List ℕ
 dump_text records =
     flat_map (λ q. rec_text q ++ codes "\n") records ++ codes "end " ++ decimal (length records)
 
+-- A reply without its line feed.
 abbrev pub reply_line : Reply → List ℕ
 reply_line (r.Now time) = codes "now " ++ decimal time
 reply_line (r.Added accepted total) =
@@ -121,5 +129,6 @@ reply_line r.NoSave = codes "no save"
 reply_line (r.Begun size) = codes "begun " ++ decimal size
 reply_line (r.Stepped left) = codes "stepped " ++ decimal left
 
+-- A reply with its line feed.
 unfoldable pub reply_text : Reply → List ℕ
 reply_text reply = reply_line reply ++ 10 ∷ []

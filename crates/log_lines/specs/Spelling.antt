@@ -106,6 +106,7 @@ verbs =
     ∷ v.Select ∷ v.Sample ∷ v.Resolve ∷ v.Clash ∷ v.Dump ∷ v.Save ∷ v.SaveBegin ∷ v.SaveStep
     ∷ v.SaveEnd ∷ []
 
+-- The keywords as words, each with the kinds of its fields.
 abbrev pub table : Table
 table = map (λ verb. (word_of verb, kinds_of verb)) verbs
 

@@ -1,3 +1,5 @@
+//! Fields that are one of two keywords: `test` or `force`, `count` or `nocount`, `new` or `any`.
+
 ghost use Rattle.std.specs.Prelude.{codes};
 ghost use Rattle.std.proofs.Common.{arith, ap, get_or};
 

@@ -1,3 +1,5 @@
+//! `Command`: what a line asks for, with the values of its fields.
+
 use crate::{WordSource, Words};
 use host_io::Bytes;
 use net_addr::{NetAddr, NetSet, Peer};

@@ -1,3 +1,5 @@
+//! The law that a line has one meaning.
+
 ghost use Rattle.std.specs.Prelude.{◌≡◌, ℕ, List};
 ghost use Rattle.host_io.specs.Lines.{IsPassedOver};
 ghost use Rattle.log_lines.specs.Spelling.{SpellsCommand, HasCommandFault};

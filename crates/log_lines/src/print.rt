@@ -1,3 +1,9 @@
+//! `put_reply` and `reply_text`: the text of each reply, of records (`dump`, `find`), of picks and
+//! of samples.
+//!
+//! The functions append in place, and cut off what they appended when memory runs out: a second
+//! list for each reply took a sixth of the instructions of a line.
+
 ghost use Rattle.std.specs.Prelude.{◌≡◌, ◌++◌, codes, take, vec_len, IfOk, OnOk, OnErr};
 ghost use Rattle.std.specs.List.{flat_map};
 ghost use Rattle.net_addr.specs.Text.{peer_text};

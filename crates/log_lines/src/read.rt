@@ -1,3 +1,5 @@
+//! `read_line` and `read_command` of `LogLines`, which says which fields each keyword has.
+
 ghost use Rattle.std.specs.Prelude.{◌≡◌, ◌≢◌, ◌↔◌, ◌⊎◌, ⊤, [], IfOk, IfSome, Some, None, Ok, Err};
 ghost use Rattle.host_io.specs.Lines.{IsPassedOver};
 ghost use Rattle.grammar.specs.Fields.{AllMean, AreAtFault};

@@ -1,3 +1,5 @@
+//! `Reply`: the answer to a command, as a value.
+
 use addr_codecs::MsgFault;
 use net_addr::Peer;
 use peer_rec::{Counts, Good, Peers, Picked, Rec, Recs, Resolved};

@@ -1,3 +1,5 @@
+//! `CommandWord` and `KEYWORDS`: the 18 keywords (`now`, `addr`, `good`, `select`, `save`, ..).
+
 ghost use Rattle.log_lines.specs.Spelling.{word_of};
 
 use grammar::Keyword;

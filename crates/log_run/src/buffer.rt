@@ -1,3 +1,6 @@
+//! `Buffer`: bytes that have been read and not used yet; it makes room and moves bytes to its
+//! start.
+
 ghost use Rattle.std.specs.Prelude.{◌≡◌, ◌+◌, ◌<◌, ◌≤◌, ◌↔◌, ℕ, [], length, drop, take, IfOk, IfSome, IfNone, OnErr, Some, None, vec_len};
 ghost use Rattle.host_io.specs.Faults.{Rose};
 ghost use Rattle.log_run.specs.Parts.{between};

@@ -1,3 +1,5 @@
+//! The trait `LineSteps`, which carries out a line, and `Stop`, why a line is not carried out.
+
 ghost use Rattle.std.specs.Prelude.{◌≡◌, ◌≢◌, ◌+◌, ◌≤◌, ◌++◌, ℕ, List, length, Err, IsTrue, OnOk, IsErrOf};
 ghost use Rattle.grammar.specs.declared.fault.LineFault.{LineFault};
 ghost use Rattle.log_run.specs.Waiting.{KeepsWorld};

@@ -1,3 +1,6 @@
+//! `LogReader` and `LogFault`: the next line, whether it is too long, and a last line without a
+//! line feed.
+
 ghost use Rattle.std.specs.Prelude.{◌≡◌, ◌+◌, ◌<◌, ◌≤◌, ◌∷◌, ◌++◌, length, take, drop, IfSome, IfNone};
 ghost use Rattle.host_io.specs.declared.lines.TheConstants.{LINE_FEED};
 ghost use Rattle.log_run.specs.Log.{HasNoFeed};

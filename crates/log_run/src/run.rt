@@ -1,3 +1,5 @@
+//! `run_log` and `LogEnd`: the loop over lines, the replies in batches, and how it ends.
+
 ghost use Rattle.std.specs.Prelude.{◌≡◌, ◌≢◌, ◌+◌, ◌-◌, ◌≤◌, length, IfNone};
 ghost use Rattle.host_io.specs.Reading.{TakesAtMost};
 ghost use Rattle.grammar.specs.declared.fault.LineFault.{LineFault};

@@ -1,3 +1,5 @@
+//! `MAX_LOG`, `MAX_LINE` and `MAX_READ`, and the law that states them.
+
 ghost use Rattle.std.specs.Prelude.{◌≡◌, ◌^◌};
 ghost use Rattle.log_run.specs.declared.sizes.TheConstants.{MAX_LINE, MAX_LOG, MAX_READ};
 

@@ -11,4 +11,5 @@
 
 mod manager;
 
-pub use manager::{Manager, Memory};
+pub use manager::Manager;
+pub use memory::Memory;

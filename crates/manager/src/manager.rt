@@ -1,3 +1,6 @@
+//! `Manager`: `apply` carries out a `Command` and answers a `Reply`, with a function for each
+//! command.
+
 ghost use Rattle.std.specs.Prelude.{◌≡◌, ◌+◌, ◌≤◌, ◌<◌, ◌^◌, IfOk, OnErr};
 ghost use Rattle.addr_codecs.specs.declared.message.TheConstants.{MAX_ENTRIES};
 ghost use Rattle.addr_codecs.specs.Layout.{IsMessage, HasMessageFault};
@@ -6,6 +9,7 @@ ghost use Rattle.manager.specs.Step.{Step, MessageStep, LeavesEntries, SavesNoth
 use addr_codecs::Form;
 use host_io::Bytes;
 use log_lines::{Command, Reply, WordSource, Words};
+use memory::Memory;
 use net_addr::{NetAddr, NetSet, Peer};
 use picking::{SampleFault, sample, select_by};
 use std::alloc::Global;
@@ -16,16 +20,6 @@ use steps::Steps;
 use tables::Tables;
 use taking::{MessageFault, take_message};
 use tried_clash::{clash_pick, resolve};
-
-/// Out of memory.
-#[derive(Clone, Copy, Debug, PartialEq, Eq)]
-pub struct Memory;
-
-impl From<tables::Memory> for Memory {
-    fn from(_error: tables::Memory) -> Memory {
-        Memory
-    }
-}
 
 /// The tables and a clock.
 #[derive(Drop)]

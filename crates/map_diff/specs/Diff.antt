@@ -35,6 +35,7 @@ unfoldable pub changes_of : Part → List Change
 changes_of (Same a b) = unless_equal a b
 changes_of (Mixed cs) = cs
 
+-- Two pairs of numbers, an old and a new one each, are equal.
 abbrev pub same_pair : ℕ → ℕ → ℕ → ℕ → Bool
 same_pair a b c d = (a == c) && (b == d)
 

@@ -23,6 +23,7 @@ abbrev pub taken_text : ChangedPrefix → List ℕ
 taken_text change =
     codes "# " ++ prefix_text (new_row change) ++ codes " was AS" ++ decimal change.old ++ 10 ∷ []
 
+-- The line of a change.
 unfoldable pub change_text : ChangedPrefix → List ℕ
 change_text change = if change.new == 0 then taken_text change else given_text change
 

@@ -1,3 +1,5 @@
+//! `ChangedPrefix`, a prefix with its old and its new AS number; and `difference`.
+
 ghost use Rattle.std.specs.Prelude.{◌≡◌, ◌⊎◌, ◌+◌, ◌<◌, ◌≤◌, ◌^◌, Bool, true, false, length, IfOk, IsErrAnd, Err};
 ghost use Rattle.asmap_vm.specs.Held.{tree_held};
 ghost use Rattle.prefix_table.specs.declared.rows.TheConstants.{MAX_ROWS};

@@ -1,3 +1,5 @@
+//! `Cursor`: how far one asmap has been read, and its two sides.
+
 ghost use Rattle.std.specs.Prelude.{◌≡◌, ℕ, ◌<◌, ◌^◌, ◌-◌, Bool, true, false, List, length};
 ghost use Rattle.bit_code.specs.Coder.{has_bit};
 ghost use Rattle.map_diff.specs.Diff.{after_bit};

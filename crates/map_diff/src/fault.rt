@@ -1,3 +1,5 @@
+//! `DiffFault`: there are too many changes, or memory ran out.
+
 ghost use Rattle.std.specs.Prelude.{◌≡◌};
 ghost use Rattle.map_diff.specs.declared.fault.DiffFault.TheVariants as fault;
 

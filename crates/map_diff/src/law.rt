@@ -1,3 +1,5 @@
+//! The law that the changes are exactly the differences, and as few as possible.
+
 ghost use Rattle.std.specs.Prelude.{◌≡◌, ◌≤◌, Bool, List, length};
 ghost use Rattle.asmap_vm.specs.Code.{Tree};
 ghost use Rattle.map_diff.specs.Diff.{Change, changes, map_of, first_over, if_differing, AreChanges};

@@ -1,3 +1,5 @@
+//! Prints the lines of a difference, and the counts of IPv4 and IPv6 addresses at its end.
+
 ghost use Rattle.std.specs.Prelude.{◌≡◌, ◌<◌, ◌≤◌, ◌+◌, ◌-◌, ◌^◌, ◌++◌, ◌==◌, Bool, true, false, length, take, flat_map, OnOk, OnErr, decimal};
 ghost use Rattle.map_diff.specs.Text.{new_row, is_counted, number_text, change_text, given_text, taken_text, count_of, counts_text, difference_text};
 

@@ -1,3 +1,5 @@
+//! `Maps`: two asmaps read side by side, where two sides with the same pair of numbers are joined.
+
 ghost use Rattle.std.specs.Prelude.{◌≡◌, ℕ, ◌+◌, ◌-◌, ◌<◌, ◌^◌, Bool, false, List, ◌++◌, Some, None, length, IfOk, IfErr, IfSome, IfNone, OnOk};
 ghost use Rattle.asmap_back.specs.Back.{first_at};
 ghost use Rattle.prefix_table.specs.declared.rows.TheConstants.{MAX_ROWS};

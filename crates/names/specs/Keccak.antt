@@ -33,6 +33,7 @@ theta_lane a i =
     bit_xor (slice_index a i)
     (bit_xor (parity a ((i + 4) % 5)) (rotate_left w64 (parity a ((i + 1) % 5)) 1))
 
+-- θ of all lanes (3.2.1).
 unfoldable pub theta : List ℕ → List ℕ
 theta a = map (theta_lane a) (range_with_len 0 25)
 
@@ -44,6 +45,7 @@ origin i = (i % 5 + 3 * (i / 5)) % 5 + 5 * (i % 5)
 abbrev pub moved_lane : List ℕ → ℕ → ℕ
 moved_lane a i = rotate_left w64 (slice_index a (origin i)) (slice_index offsets (origin i))
 
+-- π of ρ of all lanes (3.2.2, 3.2.3).
 unfoldable pub moved : List ℕ → List ℕ
 moved a = map (moved_lane a) (range_with_len 0 25)
 
@@ -54,6 +56,7 @@ chi_lane a i =
     (bit_and (bit_not w64 (slice_index a (i / 5 * 5 + (i + 1) % 5)))
     (slice_index a (i / 5 * 5 + (i + 2) % 5)))
 
+-- χ of all lanes (3.2.4).
 unfoldable pub chi : List ℕ → List ℕ
 chi a = map (chi_lane a) (range_with_len 0 25)
 
@@ -89,6 +92,7 @@ block_lane b i = if nat_le 17 i then 0 else
     ∷ slice_index b (8 * i + 3) ∷ slice_index b (8 * i + 4) ∷ slice_index b (8 * i + 5)
     ∷ slice_index b (8 * i + 6) ∷ slice_index b (8 * i + 7) ∷ [])
 
+-- The lanes of a block (3.1.2).
 unfoldable pub lanes : List ℕ → List ℕ
 lanes b = map (block_lane b) (range_with_len 0 25)
 

@@ -33,6 +33,7 @@ suffix_of I2p = codes ".b32.i2p"
 suffix_of Internal = codes ".internal"
 suffix_of other = []
 
+-- An address as people write it, by its network.
 abbrev pub name_by : Net → List ℕ → List ℕ
 name_by Unroutable bytes = []
 name_by Ipv4 bytes = ipv4_text bytes
@@ -50,6 +51,8 @@ abbrev pub is_cjdns : Net → List ℕ → Bool
 is_cjdns Ipv6 bytes = slice_index bytes 0 == 0xfc
 is_cjdns other bytes = false
 
+-- The address as a node that reaches CJDNS takes it: one of fc00::/8 belongs to CJDNS
+-- (`MaybeFlipIPv6toCJDNS`).
 abbrev pub flipped : Address → Address
 flipped a = if is_cjdns a.net a.bytes then address Cjdns a.bytes else a
 
@@ -91,6 +94,8 @@ pub data IsName (text : List ℕ) (a : Address) : Type 0 where
   colons : IsColonText text a → IsName text a
   lettered : (net : Net) → IsLettered net → IsLetterText net text a → IsName text a
 
+-- The bytes are of the network that their text is read as: those of IPv6 are not in fc00::/8, and
+-- those of CJDNS are.
 abbrev pub own_by : Net → List ℕ → Type 0
 own_by Ipv6 bytes = slice_index bytes 0 ≢ 0xfc
 own_by Cjdns bytes = slice_index bytes 0 ≡ 0xfc

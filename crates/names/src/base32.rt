@@ -1,3 +1,5 @@
+//! Base 32: letters from bytes, and bytes from letters.
+
 ghost use Rattle.std.specs.Prelude.{◌≡◌, ◌+◌, ◌*◌, ◌<◌, ◌≤◌, ◌++◌, length};
 ghost use Rattle.arrayvec.specs.ArrayVec.{array_vec_len};
 ghost use Rattle.names.specs.Base32.{letter, letters, base32};

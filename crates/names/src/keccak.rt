@@ -1,3 +1,5 @@
+//! The permutation Keccak-f of 24 rounds: `theta`, `chi`, the rotations and the round constants.
+
 ghost use Rattle.std.specs.Prelude.{◌≡◌, ◌<◌};
 ghost use Rattle.names.specs.Keccak.{parity, theta, moved, chi, round, keccak_f};
 

@@ -1,3 +1,6 @@
+//! Laws: the checksum of a Tor v3 name follows from the letters before it, and a text has one
+//! meaning.
+
 ghost use Rattle.std.specs.Prelude.{◌≡◌, ℕ, List, take};
 ghost use Rattle.net_addr.specs.Address.{Address};
 ghost use Rattle.net_addr.specs.declared.net.Net.TheVariants.{Onion};

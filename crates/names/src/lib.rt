@@ -2,7 +2,7 @@
 //! and IP addresses without brackets or labels.
 //!
 //! Proved:
-//! - `name_of` returns the name of an address, which parses as that address unless it is an IPv6
+//! - `name_text` and `name_of` return the name of an address, which parses as that address unless it is an IPv6
 //!   address of fc00::/8 or an address of CJDNS outside of it.
 //! - `parse_name` accepts exactly the grammar, so a text is the name of one address at most.
 //! - `parse_text` accepts a name, or an address as in a log, with or without a port; a text parses
@@ -22,6 +22,6 @@ mod text;
 
 pub use law::{checksums_are_determined, texts_have_one_meaning};
 pub use name::letters_of;
-pub use print::name_of;
+pub use print::{NAME_TEXT, name_of, name_text};
 pub use read::parse_name;
 pub use text::parse_text;

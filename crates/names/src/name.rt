@@ -1,3 +1,5 @@
+//! The letters of a name and back, with the version and the checksum of a Tor v3 key.
+
 ghost use Rattle.std.specs.Prelude.{◌≡◌, [], ◌∷◌, ◌++◌, ◌≤◌, length, map, codes, IsTrue, ◌↔◌, IfSome, Some, take};
 ghost use Rattle.std.specs.Char.{to_ascii_lowercase};
 ghost use Rattle.std.specs.Str.{IsAscii};

@@ -1,3 +1,5 @@
+//! `parse_name` parses a name by its suffix, in either case, or an IP address (CJDNS included).
+
 ghost use Rattle.std.specs.Prelude.{◌≡◌, ◌≢◌, ℕ, List, ◌++◌, map, codes, IfSome, IfNone, Some};
 ghost use Rattle.std.specs.Char.{to_ascii_lowercase};
 ghost use Rattle.net_addr.specs.Address.{Address, IsAddress};

@@ -1,3 +1,5 @@
+//! `sha3_256` of a short message: its padding, lanes and digest.
+
 ghost use Rattle.std.specs.Prelude.{◌≡◌, ◌+◌, ◌*◌, ◌≤◌, ◌<◌, length};
 ghost use Rattle.names.specs.Keccak.{block_lane, lanes, padded_byte, padded_block, digest, sha3_256};
 

@@ -1,3 +1,6 @@
+//! `parse_text` parses what people write: an address as in a log, or a name, with or without a
+//! port.
+
 ghost use Rattle.std.specs.Prelude.{◌≡◌, IfSome, Some};
 ghost use Rattle.net_addr.specs.Address.{Address, IsAddress};
 ghost use Rattle.names.specs.Text.{IsHost, IsHostOfPort, IsTextOf, IsWithPort};

@@ -12,3 +12,4 @@ pub mod Decimals
 pub mod RangeExamples
 pub mod ReadExamples
 pub mod OneReading
+pub mod Ascii

@@ -42,6 +42,7 @@ internal_prefix = 0xfd ∷ 0x6b ∷ 0x88 ∷ 0xc0 ∷ 0x87 ∷ 0x24 ∷ []
 abbrev pub torv2_prefix : List ℕ
 torv2_prefix = 0xfd ∷ 0x87 ∷ 0xd8 ∷ 0x7e ∷ 0xeb ∷ 0x43 ∷ []
 
+-- The bytes begin with a prefix.
 abbrev pub begins_with : List ℕ → List ℕ → Bool
 begins_with bytes prefix = starts_with ◌==◌ bytes prefix
 

@@ -6,6 +6,7 @@ use Rattle.net_addr.specs.declared.address.Bytes.TheVariants as B
 use Rattle.net_addr.specs.declared.net.Net.{Net}
 use Rattle.net_addr.specs.declared.net.Net.TheVariants.{Unroutable, Ipv4, Ipv6, Onion, I2p, Cjdns, Internal}
 
+-- The address of a network with these bytes.
 abbrev address : Net → List ℕ → Address
 address net bytes = record { net = net; bytes = bytes }
 
@@ -18,6 +19,8 @@ address_of (B.I2p bytes) = address I2p bytes
 address_of (B.Cjdns bytes) = address Cjdns bytes
 address_of (B.Internal bytes) = address Internal bytes
 
+-- The bytes of an address as its network stores them; an unroutable address is stored as an
+-- internal one.
 abbrev pub bytes_by : Net → List ℕ → Bytes
 bytes_by Unroutable bytes = B.Internal bytes
 bytes_by Ipv4 bytes = B.Ipv4 bytes
@@ -39,6 +42,7 @@ HasLabel Cjdns = Unit {0}
 HasLabel Internal = Unit {0}
 HasLabel other = ⊥
 
+-- Stored bytes are those of the address that they stand for.
 pub bytes_of-address_of : (b : Bytes) → bytes_of (address_of b) ≡ b
 bytes_of-address_of (B.Ipv4 bytes) = refl
 bytes_of-address_of (B.Ipv6 bytes) = refl

@@ -27,6 +27,7 @@ each_below p bound table n below =
     subst (λ k. p k ≡ true) (get_or-range_with_len 0 bound n 0 below ∙ zero-add n)
     (All-get_or (λ k. p k ≡ true) numbers n 0 within (AllPass-from_list_all p numbers table))
 
+-- Seven bits are those of the set of networks that they stand for.
 pub bits_of-nets_of : (bits : ℕ) → bits < 128 → bits_of (nets_of bits) ≡ bits
 bits_of-nets_of bits below =
     (Decides-eqb (bits_of (nets_of bits)) bits).0

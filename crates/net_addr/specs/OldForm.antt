@@ -5,6 +5,7 @@ use Rattle.net_addr.specs.declared.net.Net.{Net}
 use Rattle.net_addr.specs.declared.net.Net.TheVariants.{Ipv4, Ipv6, Internal}
 use Rattle.net_addr.specs.declared.peer.Peer.{Peer}
 
+-- The address of a network with these bytes.
 abbrev pub address : Net → List ℕ → Address
 address net bytes = record { net = net; bytes = bytes }
 
@@ -17,6 +18,8 @@ from_v1 bytes =
     else if begins_with bytes torv2_prefix then address Ipv6 (replicate 16 0)
     else address Ipv6 bytes
 
+-- The sixteen bytes of an address of a network, if it has an old form
+-- (`CNetAddr::SerializeV1Array`).
 abbrev pub v1_by : Net → List ℕ → Option (List ℕ)
 v1_by Ipv4 bytes = Some (mapped_prefix ++ bytes)
 v1_by Ipv6 bytes = Some bytes

@@ -1,4 +1,4 @@
--- The tests of an address, by its first bits.
+-- The tests of an address, by its first bits. A range is a prefix as in RFC 4632, section 3.1.
 use Rattle.std.specs.Prelude.{ℕ, ◌-◌, List, [], ◌∷◌, take, drop, map, Bool, true, false, ◌&&◌, ◌||◌, not, ◌==◌, Option, Some, None, is_some, if◌then◌else◌}
 use Rattle.std.specs.Int.{bit_at}
 use Rattle.std.specs.List.{flat_map, starts_with, list_any}
@@ -12,6 +12,7 @@ byte_bits b =
     bit_at b 7 ∷ bit_at b 6 ∷ bit_at b 5 ∷ bit_at b 4
     ∷ bit_at b 3 ∷ bit_at b 2 ∷ bit_at b 1 ∷ bit_at b 0 ∷ []
 
+-- All bits of some bytes, the first byte first and the highest bit of each byte first.
 abbrev pub bits_of : List ℕ → List ℕ
 bits_of bytes = flat_map byte_bits bytes
 
@@ -20,6 +21,7 @@ pub record Range : Type 0 where
   pub base : List ℕ
   pub bits : ℕ
 
+-- The range of the addresses whose first `bits` bits are those of `base`.
 abbrev pub range : List ℕ → ℕ → Range
 range base bits = record { base = base; bits = bits }
 
@@ -27,6 +29,7 @@ range base bits = record { base = base; bits = bits }
 unfoldable pub in_range : Range → List ℕ → Bool
 in_range r bytes = starts_with ◌==◌ (bits_of bytes) (take r.bits (bits_of r.base))
 
+-- The bytes are in one of the ranges.
 abbrev pub in_some : List Range → List ℕ → Bool
 in_some ranges bytes = list_any (λ r. in_range r bytes) ranges
 
@@ -49,6 +52,7 @@ ipv6_invalid =
 abbrev pub ipv4_local : List Range
 ipv4_local = four 127 0 0 0 8 ∷ four 0 0 0 0 8 ∷ []
 
+-- The IPv6 address of this host, ::1 (`CNetAddr::IsLocal`).
 abbrev pub ipv6_local : List Range
 ipv6_local = range (0 ∷ 0 ∷ 0 ∷ 0 ∷ 0 ∷ 0 ∷ 0 ∷ 0 ∷ 0 ∷ 0 ∷ 0 ∷ 0 ∷ 0 ∷ 0 ∷ 0 ∷ 1 ∷ []) 128 ∷ []
 
@@ -70,6 +74,7 @@ ipv6_reserved =
 abbrev pub cjdns_range : Range
 cjdns_range = range (0xfc ∷ []) 8
 
+-- `CNetAddr::IsValid`, by the network of the address.
 abbrev pub valid_by : Net → List ℕ → Bool
 valid_by Ipv4 bytes = not (in_some ipv4_invalid bytes)
 valid_by Ipv6 bytes = not (in_some ipv6_invalid bytes)
@@ -82,6 +87,7 @@ valid_by other bytes = false
 abbrev pub is_valid : Address → Bool
 is_valid a = valid_by a.net a.bytes
 
+-- `CNetAddr::IsLocal`, by the network of the address.
 abbrev pub local_by : Net → List ℕ → Bool
 local_by Ipv4 bytes = in_some ipv4_local bytes
 local_by Ipv6 bytes = in_some ipv6_local bytes
@@ -91,6 +97,7 @@ local_by other bytes = false
 abbrev pub is_local : Address → Bool
 is_local a = local_by a.net a.bytes
 
+-- The address is in a reserved range, by its network; only IPv4 and IPv6 have such ranges.
 abbrev pub reserved_by : Net → List ℕ → Bool
 reserved_by Ipv4 bytes = in_some ipv4_reserved bytes
 reserved_by Ipv6 bytes = in_some ipv6_reserved bytes
@@ -100,17 +107,19 @@ reserved_by other bytes = false
 abbrev pub is_routable : Address → Bool
 is_routable a = is_valid a && not (is_local a) && not (reserved_by a.net a.bytes)
 
--- NAT64 64:ff9b::/96, SIIT ::ffff:0:0:0/96, 6to4 2002::/16 and Teredo 2001:0::/32 (RFC 6052, 6145,
--- 3964, 4380)
+-- The range of NAT64, 64:ff9b::/96 (RFC 6052).
 abbrev pub nat64 : Range
 nat64 = range (0 ∷ 0x64 ∷ 0xff ∷ 0x9b ∷ 0 ∷ 0 ∷ 0 ∷ 0 ∷ 0 ∷ 0 ∷ 0 ∷ 0 ∷ []) 96
 
+-- The range of SIIT, ::ffff:0:0:0/96 (RFC 6145).
 abbrev pub siit : Range
 siit = range (0 ∷ 0 ∷ 0 ∷ 0 ∷ 0 ∷ 0 ∷ 0 ∷ 0 ∷ 0xff ∷ 0xff ∷ 0 ∷ 0 ∷ []) 96
 
+-- The range of 6to4, 2002::/16 (RFC 3964).
 abbrev pub six_to_four : Range
 six_to_four = range (0x20 ∷ 0x02 ∷ []) 16
 
+-- The range of Teredo, 2001:0::/32 (RFC 4380).
 abbrev pub teredo : Range
 teredo = range (0x20 ∷ 0x01 ∷ 0 ∷ 0 ∷ []) 32
 
@@ -123,6 +132,7 @@ carried bytes =
     else if in_range teredo bytes then Some (map (λ b. 255 - b) (drop 12 bytes))
     else None
 
+-- The four bytes of the IPv4 address that an address is or embeds, by its network.
 abbrev pub linked_by : Net → List ℕ → Option (List ℕ)
 linked_by Ipv4 bytes = Some bytes
 linked_by Ipv6 bytes = carried bytes
@@ -133,6 +143,8 @@ linked_by other bytes = None
 abbrev pub linked_ipv4 : Address → Option (List ℕ)
 linked_ipv4 a = if is_routable a then linked_by a.net a.bytes else None
 
+-- `CNetAddr::GetNetClass`, by the network of the address: an IPv6 address with a linked IPv4
+-- address counts as IPv4.
 abbrev pub class_by : Net → Address → Net
 class_by Internal a = Internal
 class_by Unroutable a = Unroutable

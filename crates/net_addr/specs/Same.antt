@@ -31,6 +31,7 @@ network (suc (suc (suc (suc zero)))) = I2p
 network (suc (suc (suc (suc (suc zero))))) = Cjdns
 network (suc (suc (suc (suc (suc (suc n)))))) = Internal
 
+-- The number of a network leads back to the network.
 network-net_number : (n : Net) → network (net_number n) ≡ n
 network-net_number Unroutable = refl
 network-net_number Ipv4 = refl
@@ -40,12 +41,15 @@ network-net_number I2p = refl
 network-net_number Cjdns = refl
 network-net_number Internal = refl
 
+-- No two networks have one number.
 pub number_of_injective : (m n : Net) → net_number m ≡ net_number n → m ≡ n
 number_of_injective m n e = sym (network-net_number m) ∙ ap network e ∙ network-net_number n
 
+-- Two addresses of one network with the same bytes are equal.
 same_parts : (a b : Address) → a.net ≡ b.net → a.bytes ≡ b.bytes → a ≡ b
 same_parts a b e f = λ i. record { net = e i; bytes = f i }
 
+-- Two addresses with the same number and bytes are equal.
 number_and_bytes_injective : (a b : Address) → number_and_bytes a ≡ number_and_bytes b → a ≡ b
 number_and_bytes_injective a b e =
     same_parts a b (number_of_injective a.net b.net (ap (λ xs. slice_index xs 0) e))
@@ -58,10 +62,12 @@ same_address-Decides a b =
     let d = bytes_eq-Decides (number_and_bytes a) (number_and_bytes b) in
     (λ h. number_and_bytes_injective a b (d.0 h), λ e. d.1 (ap number_and_bytes e))
 
+-- `==` of two addresses is an equivalence.
 pub same_address-equiv : IsEquivalence same_address
 unfolding same_address
 same_address-equiv = on_equiv number_and_bytes nat_list_eq_equiv
 
+-- `==` of two addresses is symmetric and transitive.
 pub same_address-per : IsPartialEquivalence same_address
 same_address-per = partial_equiv_from_equiv same_address-equiv
 
@@ -69,6 +75,7 @@ same_address-per = partial_equiv_from_equiv same_address-equiv
 abbrev pub hashed : Address → List (List ℕ)
 hashed a = fed.u8 (net_number a.net) ++ a.bytes ∷ []
 
+-- Two addresses that `==` calls the same feed a hasher the same.
 pub same_address-hashed : (a b : Address) → IsTrue (same_address a b) → hashed a ≡ hashed b
 same_address-hashed a b h = ap hashed ((same_address-Decides a b).0 h)
 
@@ -76,6 +83,7 @@ same_address-hashed a b h = ap hashed ((same_address-Decides a b).0 h)
 abbrev pub same_peer : Peer → Peer → Bool
 same_peer p q = same_address p.addr q.addr && p.port == q.port
 
+-- Two peers with equal addresses and ports are equal.
 same_peer_parts : (p q : Peer) → p.addr ≡ q.addr → p.port ≡ q.port → p ≡ q
 same_peer_parts p q e f = λ i. record { addr = e i; port = f i }
 

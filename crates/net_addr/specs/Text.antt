@@ -35,6 +35,7 @@ net_name Internal = codes "internal"
 abbrev pub label_of : Net → List ℕ
 label_of net = net_name net ++ codes ":"
 
+-- The text of an address, by its network.
 abbrev pub text_by : Net → List ℕ → List ℕ
 text_by Ipv4 bytes = ipv4_text bytes
 text_by Ipv6 bytes = codes "[" ++ ipv6_text bytes ++ codes "]"

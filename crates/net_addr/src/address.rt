@@ -1,3 +1,8 @@
+//! `NetAddr`, an address: its bytes, its class, its linked IPv4 address, and whether it is valid,
+//! local or routable.
+//!
+//! It is a struct around an enum of arrays, since an enum has no model.
+
 ghost use Rattle.std.specs.Prelude.{◌≡◌};
 
 use crate::Net;

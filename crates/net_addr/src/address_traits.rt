@@ -1,3 +1,5 @@
+//! `PartialEq`, `Eq` and `Hash` of `NetAddr`.
+
 ghost use Rattle.net_addr.specs.Same.{same_address, same_address-equiv, same_address-per, hashed, same_address-hashed};
 
 use crate::NetAddr;

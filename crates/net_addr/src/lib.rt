@@ -14,7 +14,6 @@
 mod address;
 mod address_traits;
 mod law;
-mod memory;
 mod net;
 mod net_set;
 mod old_form;
@@ -32,7 +31,8 @@ pub use net_set::NetSet;
 pub use old_form::{INTERNAL_PREFIX, MAPPED_PREFIX, TORV2_PREFIX, array_of};
 pub use peer::{Entry, Peer};
 pub use print::{
-    IPV4_TEXT, IPV6_TEXT, ipv4_text, ipv6_text, put_addr, put_ipv4, put_ipv6, put_peer,
+    ADDR_TEXT, IPV4_TEXT, IPV6_TEXT, PEER_TEXT, addr_text, dotted, groups, ipv4_text, ipv6_text,
+    peer_text, put_addr, put_ipv4, put_ipv6, put_peer,
 };
 pub use read::{around_last, parse_addr, parse_ipv4, parse_ipv6, parse_number, parse_peer};
 pub use text::{append, put_hex, put_number, put_text};

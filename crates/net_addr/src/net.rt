@@ -1,3 +1,5 @@
+//! `Net`, the networks: their numbers, names and lengths of address, and `NETS`, the list of all.
+
 ghost use Rattle.std.specs.Prelude.{◌≡◌, bytes_eq};
 ghost use Rattle.net_addr.specs.Text.{net_name};
 

@@ -1,3 +1,5 @@
+//! `NetSet`, a set of networks: `with`, `has`, `all` and `none`.
+
 ghost use Rattle.std.specs.Prelude.{◌≡◌, ◌<◌};
 
 use crate::Net;

@@ -1,3 +1,6 @@
+//! The sixteen bytes that stood for an address before BIP 155: `MAPPED_PREFIX`, `INTERNAL_PREFIX`
+//! and `TORV2_PREFIX`.
+
 ghost use Rattle.std.specs.Prelude.{◌≡◌, ◌++◌, length};
 ghost use Rattle.net_addr.specs.Address.{is_old_form, mapped_prefix, internal_prefix};
 

@@ -1,3 +1,6 @@
+//! `Peer`, an address and a port, with its `key_bytes`; and `Entry`, a peer with its time and
+//! services.
+
 use crate::NetAddr;
 use crate::text::append;
 use arrayvec::ArrayVec;

@@ -1,14 +1,19 @@
-ghost use Rattle.std.specs.Prelude.{◌≡◌, ◌+◌, ◌*◌, ◌<◌, ◌≤◌, ◌^◌, ◌∷◌, ◌++◌, length, take, vec_len, codes, decimal, OnOk, OnErr};
+//! Prints addresses and peers: dotted IPv4, IPv6 by RFC 5952 with `::`, brackets, and labels with
+//! hexadecimal digits.
+
+ghost use Rattle.std.specs.Prelude.{◌≡◌, ◌+◌, ◌*◌, ◌<◌, ◌≤◌, ◌^◌, ◌∷◌, ◌++◌, length, codes, decimal, OnOk, OnErr};
 ghost use Rattle.std.specs.Int.{w32, w128, to_be_bytes};
 ghost use Rattle.std.specs.Char.{digit_char};
+ghost use Rattle.std.specs.Str.{IsAscii};
 ghost use Rattle.std.specs.Net.Text.{hex, groups_text, hex_groups_text, leading_zero_digits, longest_zero_run};
 ghost use Rattle.hex.specs.Hex.{encode_lower};
 ghost use Rattle.net_addr.specs.Address.{IsAddress};
 ghost use Rattle.net_addr.specs.Text.{ipv4_text, ipv6_text, label_of, addr_text, peer_text, IsIpv4Text, IsIpv6Text, IsAddrText, IsPeerText};
+ghost use Rattle.net_addr.specs.declared.print.TheConstants.{ADDR_TEXT};
 ghost use Rattle.arrayvec.specs.ArrayVec.{array_vec_len};
 
 use crate::old_form::array_of;
-use crate::text::put_text;
+use crate::text::{append, put_text};
 use crate::{Memory, Net, NetAddr, Peer};
 use arrayvec::ArrayVec;
 use itoa::Buffer;
@@ -20,6 +25,13 @@ pub const IPV4_TEXT: usize = 15;
 /// The maximum number of bytes of an IPv6 address in text: eight groups of four digits, and seven
 /// colons.
 pub const IPV6_TEXT: usize = 39;
+
+/// The maximum number of bytes of an address in text: the label of an onion address, and two digits
+/// for each of its bytes.
+pub const ADDR_TEXT: usize = 70;
+
+/// The maximum number of bytes of a peer in text: an address, a colon and the port.
+pub const PEER_TEXT: usize = 76;
 
 /// Returns the text of an IPv4 address, the first of its four bytes the highest.
 pub fn ipv4_text(bits: u32) -> ArrayVec<u8, IPV4_TEXT>
@@ -57,20 +69,36 @@ pub fn put_ipv6(bits: u128, out: &mut Vec<u8>) -> Result<(), Memory>
     put_text(ipv6_text(bits).as_slice(), out)
 }
 
+/// Returns the text of an address. It takes no memory.
+pub fn addr_text(addr: &NetAddr) -> ArrayVec<u8, ADDR_TEXT>
+    ensures text { result.items ≡ addr_text addr.now }
+    ensures reads_back { IsAddrText (addr_text addr.now) addr.now }
+{
+    let mut text = ArrayVec::new();
+    append_addr(&mut text, addr);
+    text
+}
+
+/// Returns the text of a peer. It takes no memory.
+pub fn peer_text(peer: &Peer) -> ArrayVec<u8, PEER_TEXT>
+    ensures text { result.items ≡ peer_text peer.now }
+    ensures reads_back { IsPeerText (peer_text peer.now) peer.now }
+{
+    let port = peer.port;
+    let mut text = ArrayVec::new();
+    append_addr(&mut text, &peer.addr);
+    text.push(b':');
+    append(&mut text, Buffer::new().format(port).as_bytes());
+    text
+}
+
 /// Appends the text of an address.
 pub fn put_addr(addr: &NetAddr, out: &mut Vec<u8>) -> Result<(), Memory>
     ensures ok { OnOk result (out.new.items ≡ out.old.items ++ addr_text addr.now) }
     ensures err { OnErr result (out.new.items ≡ out.old.items) }
     ensures reads_back { IsAddrText (addr_text addr.now) addr.now }
 {
-    let length = out.len();
-    match append_addr(addr, out) {
-        Ok(()) => Ok(()),
-        Err(fault) => {
-            out.truncate(length);
-            Err(fault)
-        }
-    }
+    put_text(addr_text(addr).as_slice(), out)
 }
 
 /// Appends the text of a peer.
@@ -79,50 +107,33 @@ pub fn put_peer(peer: &Peer, out: &mut Vec<u8>) -> Result<(), Memory>
     ensures err { OnErr result (out.new.items ≡ out.old.items) }
     ensures reads_back { IsPeerText (peer_text peer.now) peer.now }
 {
-    let length = out.len();
-    match append_peer(peer, out) {
-        Ok(()) => Ok(()),
-        Err(fault) => {
-            out.truncate(length);
-            Err(fault)
-        }
-    }
+    put_text(peer_text(peer).as_slice(), out)
 }
 
-/// Appends the text of a peer. After `Memory` a part of it may be in the list.
-fn append_peer(peer: &Peer, out: &mut Vec<u8>) -> Result<(), Memory>
-    ensures text { OnOk result (out.new.items ≡ out.old.items ++ peer_text peer.now) }
-    ensures kept { take (vec_len out.old) out.new.items ≡ out.old.items }
-    ensures address { IsAddress peer.now.addr }
-    ensures port { peer.now.port < 2 ^ 16 }
-{
-    let port = peer.port;
-    append_addr(&peer.addr, out)?;
-    put_text(b":", out)?;
-    put_text(Buffer::new().format(port).as_bytes(), out)
-}
-
-/// Appends the text of an address. After `Memory` a part of it may be in the list.
-fn append_addr(addr: &NetAddr, out: &mut Vec<u8>) -> Result<(), Memory>
-    ensures text { OnOk result (out.new.items ≡ out.old.items ++ addr_text addr.now) }
-    ensures kept { take (vec_len out.old) out.new.items ≡ out.old.items }
+/// Appends the text of an address, for which there is room.
+fn append_addr<const N: usize>(out: &mut ArrayVec<u8, N>, addr: &NetAddr)
+    requires { array_vec_len out.old + ADDR_TEXT ≤ N }
+    ensures text { out.new.items ≡ out.old.items ++ addr_text addr.now }
+    ensures short { array_vec_len out.new ≤ array_vec_len out.old + ADDR_TEXT }
     ensures address { IsAddress addr.now }
 {
     let bytes = addr.bytes();
     match addr.net() {
-        Net::Ipv4 => put_text(dotted(array_of(bytes)).as_slice(), out),
-        Net::Ipv6 => append_bracketed(bytes, out),
-        Net::Onion => append_labelled(Net::Onion, bytes, out),
-        Net::I2p => append_labelled(Net::I2p, bytes, out),
-        Net::Cjdns => append_labelled(Net::Cjdns, bytes, out),
-        Net::Internal => append_labelled(Net::Internal, bytes, out),
-        Net::Unroutable => Ok(()),
+        Net::Ipv4 => append(out, dotted(array_of(bytes)).as_slice()),
+        Net::Ipv6 => append_bracketed(out, bytes),
+        Net::Onion => append_labelled(out, Net::Onion, bytes),
+        Net::I2p => append_labelled(out, Net::I2p, bytes),
+        Net::Cjdns => append_labelled(out, Net::Cjdns, bytes),
+        Net::Internal => append_labelled(out, Net::Internal, bytes),
+        Net::Unroutable => {}
     }
 }
 
-/// Returns sixteen bytes as groups of hexadecimal digits with colons between them.
-fn groups(bytes: [u8; 16]) -> ArrayVec<u8, IPV6_TEXT>
-    ensures { result.items ≡ ipv6_text bytes }
+/// Returns sixteen bytes as groups of hexadecimal digits with colons between them, in the form of
+/// RFC 5952.
+pub fn groups(bytes: [u8; 16]) -> ArrayVec<u8, IPV6_TEXT>
+    ensures text { result.items ≡ ipv6_text bytes }
+    ensures ascii { IsAscii (ipv6_text bytes) }
 {
     let segments = Ipv6Addr::from_octets(bytes).segments();
     compressed(&segments)
@@ -132,7 +143,8 @@ fn groups(bytes: [u8; 16]) -> ArrayVec<u8, IPV6_TEXT>
 /// longest run of groups that are zero, if that has at least two (RFC 5952).
 fn compressed(segments: &[u16]) -> ArrayVec<u8, IPV6_TEXT>
     requires { length segments.now ≡ 8 }
-    ensures { result.items ≡ hex_groups_text segments.now }
+    ensures text { result.items ≡ hex_groups_text segments.now }
+    ensures ascii { IsAscii (hex_groups_text segments.now) }
 {
     let mut text = ArrayVec::new();
     let (start, len) = longest_zero_run(segments);
@@ -223,40 +235,40 @@ fn hex_digit(digit: u16) -> u8
     }
 }
 
-/// Appends the text of an IPv6 address in square brackets. After `Memory` a part of it may be in
-/// the list.
-fn append_bracketed(bytes: &[u8], out: &mut Vec<u8>) -> Result<(), Memory>
-    requires { length bytes.now ≡ 16 }
-    ensures text { OnOk result (out.new.items
-        ≡ out.old.items ++ codes "[" ++ ipv6_text bytes.now ++ codes "]") }
-    ensures kept { take (vec_len out.old) out.new.items ≡ out.old.items }
+/// Appends the text of an IPv6 address in square brackets, for which there is room.
+fn append_bracketed<const N: usize>(out: &mut ArrayVec<u8, N>, bytes: &[u8])
+    requires bytes { length bytes.now ≡ 16 }
+    requires room { array_vec_len out.old + 41 ≤ N }
+    ensures text { out.new.items
+        ≡ out.old.items ++ codes "[" ++ ipv6_text bytes.now ++ codes "]" }
+    ensures short { array_vec_len out.new ≤ array_vec_len out.old + 41 }
 {
-    put_text(b"[", out)?;
-    put_text(groups(array_of(bytes)).as_slice(), out)?;
-    put_text(b"]", out)
+    out.push(b'[');
+    append(out, groups(array_of(bytes)).as_slice());
+    out.push(b']');
 }
 
-/// Appends the label of a network and the hexadecimal digits of the bytes. After `Memory` a part of
-/// it may be in the list.
-fn append_labelled(net: Net, bytes: &[u8], out: &mut Vec<u8>) -> Result<(), Memory>
-    requires { length bytes.now ≤ 32 }
-    ensures text { OnOk result (out.new.items
-        ≡ out.old.items ++ label_of net ++ encode_lower bytes.now) }
-    ensures kept { take (vec_len out.old) out.new.items ≡ out.old.items }
+/// Appends the label of a network and the hexadecimal digits of the bytes, for which there is room.
+fn append_labelled<const N: usize>(out: &mut ArrayVec<u8, N>, net: Net, bytes: &[u8])
+    requires bytes { length (label_of net) + 2 * length bytes.now ≤ ADDR_TEXT }
+    requires room { array_vec_len out.old + ADDR_TEXT ≤ N }
+    ensures text { out.new.items ≡ out.old.items ++ label_of net ++ encode_lower bytes.now }
+    ensures short { array_vec_len out.new ≤ array_vec_len out.old + ADDR_TEXT }
 {
-    let mut digits = [0; 64];
+    let mut digits = [0; ADDR_TEXT];
     let digits = &mut digits[..2 * bytes.len()];
     let Ok(()) = hex::encode_to_slice(bytes, digits) else {
         unreachable!()
     };
-    put_text(net.name(), out)?;
-    put_text(b":", out)?;
-    put_text(digits, out)
+    append(out, net.name());
+    out.push(b':');
+    append(out, digits);
 }
 
 /// Returns four decimal numbers with dots between them.
-fn dotted(bytes: [u8; 4]) -> ArrayVec<u8, IPV4_TEXT>
-    ensures { result.items ≡ ipv4_text bytes }
+pub fn dotted(bytes: [u8; 4]) -> ArrayVec<u8, IPV4_TEXT>
+    ensures text { result.items ≡ ipv4_text bytes }
+    ensures ascii { IsAscii (ipv4_text bytes) }
 {
     let [a, b, c, d] = bytes;
     let mut text = ArrayVec::new();

@@ -1,3 +1,6 @@
+//! The address ranges of RFCs: which bytes are invalid, local, reserved or CJDNS, or embed an IPv4
+//! address (NAT64, 6to4, Teredo).
+
 ghost use Rattle.std.specs.Prelude.{◌≡◌, ◌-◌, ◌*◌, ◌≤◌, ◌==◌, ◌||◌, length, map};
 ghost use Rattle.std.specs.List.{starts_with};
 ghost use Rattle.net_addr.specs.Ranges.{range, in_range, in_some, ipv4_invalid, ipv6_invalid, ipv4_local, ipv6_local, ipv4_reserved, ipv6_reserved, cjdns_range, nat64, siit, carried};

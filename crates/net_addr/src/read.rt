@@ -1,3 +1,6 @@
+//! Parses decimal numbers, IPv4, IPv6, addresses with brackets or labels, and peers with their
+//! port.
+
 ghost use Rattle.std.specs.Prelude.{◌≡◌, ◌≢◌, ℕ, List, ◌+◌, ◌-◌, ◌*◌, ◌<◌, ◌≤◌, ◌↔◌, length, slice_index, IsTrue, IfSome, IfNone, Some, decimal, ◌∷◌, ◌++◌, All};
 ghost use Rattle.std.specs.Bool.{MatchBool};
 ghost use Rattle.std.specs.Int.{w128, to_be_bytes, from_be_bytes, IsInRange};

@@ -43,6 +43,8 @@ looked_up a =
     from_be_bytes w128
     (unwrap_or (option_map (λ ipv4. mapped_prefix ++ ipv4) (linked_ipv4 a)) a.bytes)
 
+-- The 128 bits by which an asmap is searched, by the network of the address: only IPv4 and IPv6
+-- addresses are (`NetGroupManager::GetMappedAS`).
 abbrev pub asmap_by : Net → Address → Option ℕ
 asmap_by Ipv4 a = Some (looked_up a)
 asmap_by Ipv6 a = Some (looked_up a)

@@ -1,3 +1,5 @@
+//! `asmap_bits`: the 128 bits of an address by which an asmap is searched.
+
 ghost use Rattle.std.specs.Prelude.{◌≡◌, ◌++◌, IsSome};
 ghost use Rattle.std.specs.Int.{w128, from_be_bytes};
 ghost use Rattle.net_addr.specs.Address.{mapped_prefix};

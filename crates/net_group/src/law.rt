@@ -1,3 +1,5 @@
+//! The maximum size of a group as a number.
+
 ghost use Rattle.std.specs.Prelude.{◌≡◌};
 ghost use Rattle.net_group.specs.declared.network_group.TheConstants.{MAX_GROUP};
 

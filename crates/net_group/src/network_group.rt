@@ -1,3 +1,6 @@
+//! `group` (`GetGroup` of Bitcoin Core): /16, /32, Hurricane Electric's /36, the linked IPv4
+//! address, or the AS number; and `MAX_GROUP`.
+
 ghost use Rattle.std.specs.Prelude.{◌≡◌, ◌+◌, ◌*◌, ◌≤◌, [], ◌∷◌, ◌++◌, length, take, unwrap_or, if◌then◌else◌};
 ghost use Rattle.arrayvec.specs.ArrayVec.{array_vec_len};
 ghost use Rattle.net_group.specs.Group.{group_of, part_by, prefix_bytes, he_net};

@@ -8,7 +8,8 @@ use Rattle.net_addr.specs.declared.peer.Peer.{Peer}
 use Rattle.peer_rec.specs.declared.answers.Picked.TheVariants.{One, Nothing}
 use Rattle.peer_rec.specs.declared.rec.Rec.{Rec}
 use Rattle.table_machine.specs.State.{State, find_peer, is_new_at, is_tried_at}
-use Rattle.table_machine.specs.Picks.{candidate, candidates, candidates_of, candidates_of_either, first_accepted, first_factor, is_accepted, is_wanted, next_factor, occupant_at, select, wanted_new, wanted_tried, with_candidate}
+use Rattle.peer_rec.specs.Rec.{next_factor}
+use Rattle.table_machine.specs.Picks.{candidate, candidates, candidates_of, candidates_of_either, first_accepted, first_factor, is_accepted, is_wanted, occupant_at, select, wanted_new, wanted_tried, with_candidate}
 use Rattle.table_machine.proofs.Lists.{find-None, find-Some}
 use Rattle.node_calls.specs.Picked.{IsPicked}
 

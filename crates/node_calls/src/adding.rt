@@ -1,3 +1,5 @@
+//! `add`, `take_message`, `take_first` and `take_entries`.
+
 ghost use Rattle.std.specs.Prelude.{◌≡◌, ◌<◌, ◌^◌, IfOk, IfErr, OnOk, OnErr, ◌+◌, ◌≤◌, length};
 ghost use Rattle.table_machine.specs.Entries.{add};
 ghost use Rattle.taking.specs.Taking.{IsAdded, IsMessageFault, AreAdded, HasFirst};

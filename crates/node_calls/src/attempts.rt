@@ -1,3 +1,5 @@
+//! `good`, `attempt`, `connected` and `services`.
+
 ghost use Rattle.std.specs.Prelude.{◌≡◌};
 ghost use Rattle.table_machine.specs.Tried.{good, attempt, connected, set_services};
 

@@ -1,3 +1,5 @@
+//! `select`, `sample`, `resolve` and `clash_pick`.
+
 ghost use Rattle.std.specs.Prelude.{◌≡◌, ℕ, ◌≤◌, ◌<◌, ◌^◌, length, Err, IfOk, OnOk, OnErr, IsSome};
 ghost use Rattle.net_addr.specs.declared.peer.Peer.{Peer};
 ghost use Rattle.peer_rec.specs.declared.answers.Picked.TheVariants.{One};

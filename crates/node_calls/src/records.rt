@@ -1,3 +1,5 @@
+//! `find`, `recs`, `snapshot`, `restore` and `file_length`.
+
 ghost use Rattle.std.specs.Prelude.{◌≡◌, None, IfOk, IfErr, ◌+◌, ◌*◌, ◌≤◌, length};
 ghost use Rattle.table_machine.specs.State.{find_peer};
 ghost use Rattle.table_machine.specs.Snapshot.{snapshot_of, file_rec};

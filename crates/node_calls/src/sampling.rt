@@ -1,3 +1,6 @@
+//! `sample_unfiltered`: a sample of all records, terrible ones included, after a shuffle by random
+//! words.
+
 ghost use Rattle.std.specs.Prelude.{◌≡◌, ℕ, ◌≤◌, ◌<◌, ◌^◌, length, filter, take, Err, IfOk, OnOk};
 ghost use Rattle.picking.specs.declared.sampling.SampleFault.{SampleFault};
 ghost use Rattle.table_machine.specs.Picks.{sample_limit};

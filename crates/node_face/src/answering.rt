@@ -1,3 +1,5 @@
+//! `answer` and `AnswerFault`: a request for addresses.
+
 ghost use Rattle.std.specs.Prelude.{◌≡◌, ◌<◌, ◌↔◌, ◌⊎◌, true, length, map, filter, Some, Err, IfOk, OnOk, OnErr};
 ghost use Rattle.addr_answers.specs.Answers.{key_of};
 ghost use Rattle.addr_answers.specs.Runs.{after_ask, told};

@@ -1,3 +1,5 @@
+//! `load_bans`, `save_bans` and `ListFault`: the `banlist.json` of a folder.
+
 ghost use Rattle.std.specs.Prelude.{◌≡◌, ◌≢◌, ◌<◌, ◌≤◌, ◌⊎◌, length, None, Ok, Err, IfOk, IfErr, IfSome, OnOk};
 ghost use Rattle.host_io.specs.Faults.{Rose};
 ghost use Rattle.host_io.specs.Files.{known_bytes};

@@ -1,3 +1,5 @@
+//! `ban` with times in any order.
+
 ghost use Rattle.std.specs.Prelude.{◌≡◌, IfOk, OnOk, OnErr};
 ghost use Rattle.ban_list.specs.Bans.{after_ban, ban_of};
 

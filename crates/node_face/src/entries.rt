@@ -1,3 +1,5 @@
+//! `add`, `take_message`, `AddFault`, `TakeFault` and `MAX_RECORDS`.
+
 ghost use Rattle.std.specs.Prelude.{◌≡◌, ◌≤◌, ◌↔◌, ◌^◌, Err, IfOk, IfErr, OnOk, OnErr};
 ghost use Rattle.table_machine.specs.Entries.{add};
 ghost use Rattle.taking.specs.Taking.{IsAdded};

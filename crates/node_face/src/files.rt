@@ -1,3 +1,5 @@
+//! `open`, `read`, `load` and `OpenFault`: tables from nothing, from bytes, or from a folder.
+
 ghost use Rattle.std.specs.Prelude.{◌≡◌, ◌<◌, ◌≤◌, ◌⊎◌, length, None, Ok, Err, IfOk, IfErr, IfSome};
 ghost use Rattle.host_io.specs.Faults.{Rose};
 ghost use Rattle.host_io.specs.Files.{known_bytes};

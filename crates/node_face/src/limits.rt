@@ -1,3 +1,6 @@
+//! `admit` and `AdmitFault`: how many entries of a message a connection may send, if its number is
+//! known.
+
 ghost use Rattle.std.specs.Prelude.{◌≡◌, ◌<◌, ◌↔◌, None, Some, Err, IfOk, OnOk, OnErr, option_map};
 ghost use Rattle.addr_codecs.specs.declared.message.TheConstants.{MAX_ENTRIES};
 ghost use Rattle.limiter.specs.State.{find_conn};

@@ -1,3 +1,5 @@
+//! `write_message` and `WriteFault`: entries that a form has no room for are left out.
+
 ghost use Rattle.std.specs.Prelude.{◌≡◌, ◌<◌, ◌↔◌, Err, IfOk, length, map, filter, Some};
 ghost use Rattle.addr_codecs.specs.Layout.{IsAddrMessage, IsAddrv2Message};
 ghost use Rattle.addr_codecs.specs.declared.message.TheConstants.{MAX_ENTRIES};

@@ -1,3 +1,5 @@
+//! `add_outbound` and `OutboundFault`: refused if ten are open, or one in its group.
+
 ghost use Rattle.std.specs.Prelude.{◌≡◌, ◌≤◌, ◌<◌, ◌↔◌, length, Contains, Err, OnOk, OnErr};
 ghost use Rattle.placing.specs.Places.{group};
 ghost use Rattle.peer_open.specs.Groups.{groups, with_peer};

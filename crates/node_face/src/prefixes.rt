@@ -1,3 +1,5 @@
+//! `read_prefixes`: a table of prefixes of any length.
+
 ghost use Rattle.std.specs.Prelude.{◌≡◌, ◌⊎◌, ◌<◌, ◌≤◌, Err, IfOk, IfErr, length};
 ghost use Rattle.prefix_table.specs.Text.{IsTableText, IsFault};
 ghost use Rattle.prefix_table.specs.declared.read.TheConstants.{MAX_TEXT};

@@ -1,3 +1,5 @@
+//! `ProperBan`: a ban of a list.
+
 ghost use Rattle.ban_list.specs.Subnet.{IsProper};
 
 use crate::ProperSubnet;

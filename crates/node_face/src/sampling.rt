@@ -1,3 +1,5 @@
+//! `sample` with a generator that makes its random words.
+
 ghost use Rattle.std.specs.Prelude.{◌≡◌, IfOk, OnErr, length};
 ghost use Rattle.node_face.specs.Sampling.{IsSample, IsUnfiltered, next_words};
 

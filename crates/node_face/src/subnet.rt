@@ -1,3 +1,5 @@
+//! `ProperSubnet`: a subnet that can be banned.
+
 ghost use Rattle.ban_list.specs.Subnet.{IsProper};
 
 use ban_list::{Memory, Subnet, parse_subnet, put_subnet};

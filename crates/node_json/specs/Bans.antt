@@ -16,6 +16,7 @@ ban_members now ban =
     ∷ (codes "ban_duration", json_number (ban.until - ban.created))
     ∷ (codes "time_remaining", json_number (ban.until - now)) ∷ []
 
+-- A ban as an object.
 abbrev pub ban_json : ℕ → Ban → Json
 ban_json now ban = object_of (ban_members now ban)
 

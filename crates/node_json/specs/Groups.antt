@@ -1,4 +1,5 @@
--- The groups of the tables: how many slots, buckets and records each has.
+-- The groups of the tables: how many slots, buckets and records each has. How well the asmap covers
+-- the records is what `NetGroupManager::ASMapHealthCheck` in netgroup.cpp of Bitcoin Core logs.
 use Rattle.std.specs.Prelude.{◌≡◌, ℕ, All, Bool, Contains, IfSome, true, false, not, List, [], ◌∷◌, ◌++◌, length, map, Option, Some, None, bytes_eq, codes, count_by, filter, fold, if◌then◌else◌, is_some, ◌==◌, ◌||◌}
 use Rattle.std.specs.List.{flat_map, list_any}
 use Rattle.json.specs.Json.{Json, string}
@@ -19,6 +20,7 @@ use Rattle.table_groups.specs.View.{View}
 
 -- A GROUP
 
+-- The numbers of a group, as members.
 unfoldable pub number_members : Numbers → List Member
 number_members n =
     (codes "new_slots", json_number n.slots) ∷ (codes "new_buckets", json_number n.buckets)
@@ -36,9 +38,11 @@ abbrev pub items_by : Places → Numbers → Option Address → List Json
 items_by places n None = []
 items_by places n (Some a) = object_of (group_members places n a) ∷ []
 
+-- The object of a row; none if its group has no first address.
 abbrev pub row_items : Places → Row → List Json
 row_items places row = items_by places row.numbers row.first
 
+-- All groups as an array, the one with the most slots first.
 unfoldable pub groups_array : View → Json
 groups_array view = array_of (flat_map (row_items view.places) (rows_of view))
 
@@ -71,6 +75,7 @@ totals_by groups slots records tried =
     (codes "groups", json_number groups) ∷ (codes "new_slots", json_number slots)
     ∷ (codes "new_records", json_number records) ∷ (codes "tried_records", json_number tried) ∷ []
 
+-- The members on all groups together.
 abbrev pub totals_members : View → List Member
 totals_members view =
     totals_by (length (groups_in view)) (new_slots is_some view)
@@ -82,6 +87,7 @@ is_clearnet_class Ipv4 = true
 is_clearnet_class Ipv6 = true
 is_clearnet_class other = false
 
+-- The record's address is one that an asmap can map: IPv4, IPv6, or with a linked IPv4 address.
 abbrev pub is_clearnet : Rec → Bool
 is_clearnet r = is_clearnet_class (net_class r.peer.addr)
 
@@ -105,10 +111,13 @@ health_members numbers =
     ∷ (codes "as_numbers", json_number (length (known_numbers numbers)))
     ∷ (codes "unmapped", json_number (count_by (λ n. n == 0) numbers)) ∷ []
 
+-- The members of the whole value: the groups, the totals, and how well the asmap covers the
+-- records.
 unfoldable pub groups_members : View → List Member
 groups_members view =
     (codes "groups", groups_array view) ∷ (codes "totals", object_of (totals_members view))
     ∷ (codes "asmap", object_of (health_members (clearnet_numbers view))) ∷ []
 
+-- The whole value that `groups` prints.
 unfoldable pub groups_json : View → Json
 groups_json view = object_of (groups_members view)

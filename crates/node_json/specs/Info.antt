@@ -28,6 +28,7 @@ all_row view =
     let new = count_by (λ r. not (is_tried r)) view.records in
     (codes "all_networks", counts_json new (count_by is_tried view.records))
 
+-- The whole value: the networks in the order of `getaddrmaninfo`, then all records.
 unfoldable pub info_json : View → Json
 info_json view =
     object_of (network_row view Ipv4 ∷ network_row view Ipv6 ∷ network_row view Onion

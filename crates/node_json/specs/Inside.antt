@@ -13,6 +13,7 @@ use Rattle.node_json.specs.Raw.{class_name}
 use Rattle.table_groups.specs.declared.ranked_groups.Row.{Row}
 use Rattle.node_json.specs.Value.{Member, json_number, unless_zero}
 
+-- The tokens of some members.
 abbrev pub tokens_of : List Member → List Token
 tokens_of [] = []
 tokens_of (m ∷ ms) = Token.key m.0 ∷ (json_tokens m.1 ++ tokens_of ms)

@@ -46,10 +46,12 @@ abbrev pub rec_at : Table → State → ℕ → ℕ → Option Rec
 rec_at New st bucket slot = new_rec_at st bucket slot
 rec_at Tried st bucket slot = tried_rec_at st bucket slot
 
+-- The number of buckets of a table.
 abbrev pub buckets_of : Table → ℕ
 buckets_of New = NEW_BUCKETS
 buckets_of Tried = TRIED_BUCKETS
 
+-- The name of a table.
 abbrev pub name_of : Table → List ℕ
 name_of New = codes "new"
 name_of Tried = codes "tried"
@@ -81,5 +83,6 @@ both_members st =
     (name_of New, object_of (table_members New st))
     ∷ (name_of Tried, object_of (table_members Tried st)) ∷ []
 
+-- The whole value that `raw` prints: both tables.
 unfoldable pub raw_json : State → Json
 raw_json st = object_of (both_members st)

@@ -8,10 +8,12 @@ use Rattle.json.specs.Tree.{json_tokens}
 abbrev pub Member : Type 0
 Member = List ℕ × Json
 
+-- The members of an object, in this order.
 abbrev pub members_of : List Member → Members
 members_of [] = no_members
 members_of (m ∷ ms) = member m.0 m.1 (members_of ms)
 
+-- The elements of an array, in this order.
 abbrev pub items_of : List Json → Items
 items_of [] = no_items
 items_of (j ∷ js) = item j (items_of js)
@@ -20,6 +22,7 @@ items_of (j ∷ js) = item j (items_of js)
 abbrev pub object_of : List Member → Json
 object_of ms = object (members_of ms)
 
+-- The array with these elements, in this order.
 abbrev pub array_of : List Json → Json
 array_of js = array (items_of js)
 

@@ -1,3 +1,5 @@
+//! `bans_text`: the bans still in force as `listbanned` prints them, with durations.
+
 ghost use Rattle.std.specs.Prelude.{◌≡◌, [], ◌∷◌, ◌++◌, IfOk, OnOk, map};
 ghost use Rattle.json.specs.Tree.{json_tokens};
 ghost use Rattle.ban_list.specs.Bans.{current_by};

@@ -1,3 +1,5 @@
+//! `groups_text`: the groups with their numbers, and how well the asmap covers the records.
+
 ghost use Rattle.std.specs.Prelude.{◌≡◌, ◌==◌, count_by, ◌≤◌, ◌∷◌, ◌++◌, [], IfOk, OnOk, codes, filter, length, map};
 ghost use Rattle.std.specs.List.{flat_map};
 ghost use Rattle.indexmap.specs.IndexMap.{keys};

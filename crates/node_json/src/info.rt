@@ -1,3 +1,5 @@
+//! `info_text`, as `getaddrmaninfo`: the records of each network and of all.
+
 ghost use Rattle.std.specs.Prelude.{◌≡◌, ◌+◌, ◌<◌, [], ◌∷◌, ◌++◌, IfOk, OnOk};
 ghost use Rattle.json.specs.Tree.{json_tokens};
 ghost use Rattle.net_addr.specs.NetSet.{none, with_net};

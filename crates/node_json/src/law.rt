@@ -1,3 +1,5 @@
+//! Laws: each record counts, and the groups add up and are all listed.
+
 ghost use Rattle.std.specs.Prelude.{◌≡◌, ◌+◌, ◌==◌, ℕ, List, count_by, is_some, length, not};
 ghost use Rattle.std.specs.List.{sum_by};
 ghost use Rattle.peer_rec.specs.Rec.{is_tried};
@@ -26,6 +28,8 @@ pub fn groups_add_up()
 
 /// The groups of the text are those of the sources in the records of the new table and of the peers
 /// in those of the tried one, each once.
+///
+/// The text has one object for each of these groups, and no other object.
 pub fn groups_are_listed()
     ensures { (view : View) → ListsGroups view }
 {}

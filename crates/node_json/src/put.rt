@@ -1,3 +1,5 @@
+//! Appends members of JSON objects: texts, numbers, beginnings and ends.
+
 ghost use Rattle.std.specs.Prelude.{◌≡◌, [], ◌∷◌, ◌++◌, IfOk, OnOk, ◌≤◌};
 ghost use Rattle.json.specs.Json.{Json, string};
 ghost use Rattle.json.specs.Token.{begin_object, key};

@@ -1,3 +1,5 @@
+//! `raw_text`, as `getrawaddrman`: the records under `bucket/position`.
+
 ghost use Rattle.std.specs.Prelude.{◌≡◌, ◌<◌, [], ◌∷◌, ◌++◌, IfOk, OnOk, option_map, Some};
 ghost use Rattle.json.specs.Json.{string};
 ghost use Rattle.json.specs.Tree.{json_tokens};

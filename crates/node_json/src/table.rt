@@ -1,3 +1,5 @@
+//! `Table`: `new` or `tried`, as JSON names it.
+
 /// One of the two tables.
 #[derive(Clone, Copy)]
 pub enum Table {

@@ -1,4 +1,5 @@
--- What holds of the peers that an opener takes.
+-- What holds of the peers that an opener takes. Bitcoin Core has these rules in
+-- `CConnman::ThreadOpenConnections` in net.cpp.
 use Rattle.std.specs.Prelude.{◌≡◌, ℕ, ◌-◌, ◌<◌, ◌≤◌, false}
 use Rattle.net_addr.specs.declared.peer.Peer.{Peer}
 use Rattle.peer_rec.specs.declared.answers.Picked.TheVariants as picked

@@ -60,6 +60,7 @@ FaultBy (Some Feeler) texts f = AreAtFault (u32_field ∷ u64_field ∷ []) text
 FaultBy (Some Close) texts f = AreAtFault (OfPeer ∷ []) texts f
 FaultBy (Some (Log verb)) texts f = AreAtFault (log.kinds_of verb) texts f
 
+-- What is wrong in a first word and the texts after it.
 abbrev pub FaultAfter : List ℕ → List (List ℕ) → LineFault → Type 0
 FaultAfter word texts f = FaultBy (verb_at word) texts f
 

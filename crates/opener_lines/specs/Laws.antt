@@ -13,19 +13,24 @@ use Rattle.opener_lines.specs.declared.command.OpenerCommand.TheVariants as requ
 use Rattle.opener_lines.specs.declared.command.OpenerWord.{OpenerWord}
 use Rattle.opener_lines.specs.declared.command.OpenerWord.TheVariants.{Outbound, Feeler, Close, Log}
 
+-- The peer that a value is, or another one.
 abbrev peer_in : Peer → Value → Peer
 peer_in p (ThePeer q) = q
 peer_in p other = p
 
+-- The field of `outbound`: a seed.
 abbrev seeds : List Kind
 seeds = u32_field ∷ []
 
+-- The fields of `feeler`: a seed, and the random word that selects a collision.
 abbrev pairs : List Kind
 pairs = u32_field ∷ u64_field ∷ []
 
+-- The field of `close`: a peer.
 abbrev one_peer : List Kind
 one_peer = OfPeer ∷ []
 
+-- The words of a line ask for one thing.
 pub one_asked : (word : List ℕ) (texts : List (List ℕ)) (a b : OpenerCommand) →
     AsksAfter word texts a → AsksAfter word texts b → a ≡ b
 one_asked word texts a b = by (verb_at word)
@@ -51,6 +56,7 @@ one_asked word texts a b = by (verb_at word)
     by (Some (Log verb)) (c, h, is) (d, k, is') =
         is ∙ ap request.Machine (log.one_by verb texts c d h k) ∙ sym is'
 
+-- The words of a line have one fault.
 pub one_fault : (word : List ℕ) (texts : List (List ℕ)) (f g : LineFault) →
     FaultAfter word texts f → FaultAfter word texts g → f ≡ g
 one_fault word texts f g = by (verb_at word)
@@ -62,6 +68,7 @@ one_fault word texts f g = by (verb_at word)
     by (Some Close) h k = one_fault_after (Some one_peer) texts f g h k
     by (Some (Log verb)) h k = one_fault_after (Some (kinds_of verb)) texts f g h k
 
+-- Words that ask for something have no fault.
 pub no_fault : (word : List ℕ) (texts : List (List ℕ)) (a : OpenerCommand) (f : LineFault) →
     AsksAfter word texts a → FaultAfter word texts f → ⊥
 no_fault word texts a f = by (verb_at word)

@@ -1,5 +1,6 @@
 -- The address manager with the open outbound peers, the rules by which they are chosen, and what a
--- request does to them.
+-- request does to them. Bitcoin Core opens its connections in `CConnman::ThreadOpenConnections` in
+-- net.cpp.
 use Rattle.std.specs.Prelude.{◌≡◌, ◌⊎◌, ℕ, ◌<◌, List, Bool, length}
 use Rattle.net_addr.specs.declared.peer.Peer.{Peer}
 use Rattle.placing.specs.Places.{Places}
@@ -16,11 +17,13 @@ use Rattle.opener_lines.specs.declared.command.OpenerCommand.TheVariants as requ
 use Rattle.opener_lines.specs.declared.tries.Outcome.{Outcome}
 use Rattle.opener_lines.specs.declared.tries.Outcome.TheVariants as outcome
 
+-- The rules that options choose, the machine, and the open outbound peers.
 pub record OpenerState : Type 0 where
   pub rules : OpenRules
   pub machine : Machine
   pub open_peers : List Outbound
 
+-- The state with these rules, this machine and these open peers.
 abbrev pub state : OpenRules → Machine → List Outbound → OpenerState
 state rules machine open_peers =
     record { rules = rules; machine = machine; open_peers = open_peers }
@@ -36,11 +39,13 @@ pub data Answer : Type 0 where
   Closed : (was_open : Bool) → Answer
   Told : (reply : Reply) → Answer
 
+-- The answer to `outbound`, by what the tries came to.
 abbrev pub answer_to_outbound : OpenRules → Places → Outcome → Answer
 answer_to_outbound rules places (outcome.Taken peer i) = Opened peer (counted rules places peer) i
 answer_to_outbound rules places outcome.Nothing = NoPeer
 answer_to_outbound rules places outcome.GaveUp = GaveUp
 
+-- The answer to `feeler`, by what the tries came to.
 abbrev pub answer_to_feeler : Outcome → Answer
 answer_to_feeler (outcome.Taken peer i) = Tested peer i
 answer_to_feeler outcome.Nothing = NoPeer

@@ -50,6 +50,7 @@ pick_of_feeler m None seed i = pick_of_try m true seed i
 pick_of_feeler m (Some occupant) seed i =
     if i == 1 then picked.One occupant.0 occupant.1 else pick_of_try m true seed i
 
+-- The pick of a try, for a connection to keep or for a test.
 abbrev pub pick_by : Machine → Aim → ℕ → ℕ → Picked
 pick_by m ToKeep seed i = pick_of_try m false seed i
 pick_by m (ToTest occupant) seed i = pick_of_feeler m occupant seed i
@@ -76,6 +77,7 @@ verdict_by rules ToKeep places open_peers peer last_try now i =
 verdict_by rules (ToTest occupant) places open_peers peer last_try now i =
     judge_feeler last_try now i
 
+-- What a verdict makes of a try: the peer is taken, or the next try follows.
 abbrev pub try_of_verdict : Verdict → Peer → Try
 try_of_verdict verdict.Take peer = Take peer
 try_of_verdict verdict.SameGroup peer = Next

@@ -1,3 +1,5 @@
+//! `OpenerWord`, `KEYWORDS` and `OpenerCommand`: what a line asks for.
+
 ghost use Rattle.opener_lines.specs.Grammar.{opener_word};
 
 use grammar::Keyword;

@@ -1,3 +1,5 @@
+//! Laws: groups stay distinct, and tries are fair and end once.
+
 ghost use Rattle.std.specs.Prelude.{◌≡◌, ℕ, List};
 ghost use Rattle.host_io.specs.Lines.{IsPassedOver};
 ghost use Rattle.grammar.specs.Fields.{AreWords};

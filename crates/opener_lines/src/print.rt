@@ -1,3 +1,6 @@
+//! Prints the replies about a connection that was opened, tested (`feeler`) or closed, with the
+//! number of tries.
+
 ghost use Rattle.std.specs.Prelude.{◌≡◌, ◌++◌, IfOk, OnOk};
 ghost use Rattle.opener_lines.specs.Texts.{closed_text, opened_text, tested_text, tries_text};
 

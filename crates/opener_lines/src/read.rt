@@ -1,3 +1,5 @@
+//! `OpenerLines` reads the fields of a line.
+
 ghost use Rattle.std.specs.Prelude.{◌≡◌, ◌≢◌, ◌↔◌, ◌⊎◌, IfOk, IfSome, Some, None, Ok, Err, ⊤};
 ghost use Rattle.host_io.specs.Lines.{IsPassedOver};
 ghost use Rattle.grammar.specs.declared.fault.LineFault.{LineFault};

@@ -1,3 +1,5 @@
+//! Opens an outbound connection or a feeler, or closes one; other lines go to the manager.
+
 ghost use Rattle.std.specs.Prelude.{◌≡◌, ◌+◌, ◌≤◌, ◌<◌, ◌^◌, ◌++◌, ◌⊎◌, OnOk, OnErr};
 ghost use Rattle.log_lines.specs.Replies.{reply_text};
 ghost use Rattle.log_lines.specs.declared.reply.Reply as replies;

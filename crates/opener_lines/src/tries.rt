@@ -1,3 +1,5 @@
+//! Up to 100 tries, each a pick and a verdict, with `Outcome` and `TRY_WORDS`.
+
 ghost use Rattle.std.specs.Prelude.{◌≡◌, ◌<◌, ℕ, Option, IfSome, IfNone, if◌then◌else◌};
 ghost use Rattle.net_addr.specs.declared.peer.Peer as peers;
 ghost use Rattle.opener_lines.specs.Tries.{counted, is_passed, pick_of_feeler, pick_of_try, services_of, HasOutcome, Next, Take, ToKeep, ToTest, try_by, try_of_peer};

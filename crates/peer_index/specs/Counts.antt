@@ -4,9 +4,10 @@ use Rattle.net_addr.specs.NetSet.{has}
 use Rattle.peer_rec.specs.Rec.{is_tried, network}
 use Rattle.peer_rec.specs.declared.rec.Rec.{Rec}
 
--- how many records of the new table, and of the tried table, have their network in the set
+-- The number of records of the new table whose network is in the set.
 abbrev pub count_new : List ℕ → List Rec → ℕ
 count_new nets rs = count_by (λ r. not (is_tried r) && has nets (network r)) rs
 
+-- The number of records of the tried table whose network is in the set.
 abbrev pub count_tried : List ℕ → List Rec → ℕ
 count_tried nets rs = count_by (λ r. is_tried r && has nets (network r)) rs

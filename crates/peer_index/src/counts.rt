@@ -1,3 +1,5 @@
+//! `Counts`: the number of records of each network in each table, kept up to date.
+
 ghost use Rattle.std.specs.Prelude.{◌≡◌, ◌<◌, ◌≤◌, ◌^◌, ℕ, true, get_or, cond};
 ghost use Rattle.net_addr.specs.Address.{net_number};
 ghost use Rattle.net_addr.specs.NetSet.{has};

@@ -1,25 +1,18 @@
+//! `PeerIndex` over a slab and a map: `add`, `remove`, `find`, `get`, `set`, `at` and `swap`.
+
 ghost use Rattle.std.specs.Prelude.{◌≡◌};
 
 use crate::counts::{Counts, sum};
 use indexmap::IndexMap;
+use memory::Memory;
 use net_addr::{NetSet, Peer};
 use peer_rec::Rec;
 use slab::Slab;
-use std::alloc::{AllocFailed, Global};
+use std::alloc::Global;
 use std::hash::BuildHasher;
 use std::marker::Model;
 use std::sync::ledger::Ledger;
 use steps::Steps;
-
-/// Out of memory.
-#[derive(Clone, Copy, Debug, PartialEq, Eq)]
-pub struct Memory;
-
-impl<T: Drop> From<AllocFailed<T>> for Memory {
-    fn from(_: AllocFailed<T>) -> Memory {
-        Memory
-    }
-}
 
 /// The records of the tables in an order, each with an id that it keeps until it is removed. Only
 /// `add` takes memory, and a peer is found by one look-up under the caller's hasher.

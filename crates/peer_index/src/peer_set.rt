@@ -1,6 +1,9 @@
+//! `PeerSet`: a set of peers, used while a file is checked for duplicates.
+
 use crate::counts::Counts;
-use crate::index::{Memory, PeerIndex};
+use crate::index::PeerIndex;
 use indexmap::IndexMap;
+use memory::Memory;
 use net_addr::Peer;
 use slab::Slab;
 use std::alloc::Global;

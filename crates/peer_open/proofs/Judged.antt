@@ -1,15 +1,15 @@
 -- When a verdict comes.
-use Rattle.std.proofs.Common.{◌≡◌, ◌↔◌, ◌-◌, ◌<◌, ◌≤◌, ◌∙◌, inl, inr, arith, ℕ, List, Bool, true, false, nat_lt, nat_le, Contains, if◌then◌else◌, refl, sym, subst}
+use Rattle.std.proofs.Common.{◌≡◌, ◌↔◌, ◌-◌, ◌<◌, ◌≤◌, ◌∙◌, inl, inr, arith, ℕ, List, Bool, true, false, nat_lt, nat_le, IsTrue, Contains, if◌then◌else◌, refl, sym, subst}
 use Rattle.std.specs.Bool.{Decides}
 use Rattle.std.proofs.lemmas.Bool.{le-leb, leb-true}
 use Rattle.std.proofs.lemmas.Bool.Decides.{Decides-and, Decides-ltb, leb_tells}
 use Rattle.peer_open.specs.Groups.{Outbound, groups, has_group}
-use Rattle.peer_open.specs.Verdicts.{IsTooSoon, is_recent, judge, judge_feeler}
+use Rattle.peer_open.specs.Verdicts.{is_recent, judge, judge_feeler}
 use Rattle.peer_open.specs.declared.outbound.Verdict.{Verdict}
 use Rattle.peer_open.specs.declared.outbound.Verdict.TheVariants.{Take, SameGroup, Recent}
 use Rattle.peer_open.proofs.Apart.{has_group-Decides}
 
-is_recent-Decides : (last_try now tries : ℕ) → Decides (is_recent last_try now tries) (IsTooSoon last_try now tries)
+is_recent-Decides : (last_try now tries : ℕ) → Decides (is_recent last_try now tries) ((now - last_try < 600) × (tries ≤ 30))
 is_recent-Decides last_try now tries =
     Decides-and (nat_lt (now - last_try) 600) (nat_le tries 30) (Decides-ltb (now - last_try) 600) (leb-true tries 30, le-leb tries 30)
 
@@ -34,17 +34,17 @@ by_group false P Q c d e = (
 
 pub judged : (os : List Outbound) (group : List ℕ) (last_try now tries : ℕ) →
     (judge os group last_try now tries ≡ SameGroup ↔ Contains (groups os) group)
-    × (judge os group last_try now tries ≡ Recent ↔ ((¬ Contains (groups os) group) × IsTooSoon last_try now tries))
+    × (judge os group last_try now tries ≡ Recent ↔ ((¬ Contains (groups os) group) × IsTrue (is_recent last_try now tries)))
 judged os group last_try now tries =
-    by_group (has_group group os) (Contains (groups os) group) (IsTooSoon last_try now tries) (is_recent last_try now tries)
-    (has_group-Decides group os) (is_recent-Decides last_try now tries)
+    by_group (has_group group os) (Contains (groups os) group) (IsTrue (is_recent last_try now tries)) (is_recent last_try now tries)
+    (has_group-Decides group os) (λ e. e, λ e. e)
 
 -- the same of a verdict that is known to be that one
 pub judged_so : (v : Verdict) (os : List Outbound) (group : List ℕ) (last_try now tries : ℕ) → v ≡ judge os group last_try now tries →
     (v ≡ SameGroup ↔ Contains (groups os) group)
-    × (v ≡ Recent ↔ ((¬ Contains (groups os) group) × IsTooSoon last_try now tries))
+    × (v ≡ Recent ↔ ((¬ Contains (groups os) group) × IsTrue (is_recent last_try now tries)))
 judged_so v os group last_try now tries is =
-    subst (λ u. (u ≡ SameGroup ↔ Contains (groups os) group) × (u ≡ Recent ↔ ((¬ Contains (groups os) group) × IsTooSoon last_try now tries))) (sym is)
+    subst (λ u. (u ≡ SameGroup ↔ Contains (groups os) group) × (u ≡ Recent ↔ ((¬ Contains (groups os) group) × IsTrue (is_recent last_try now tries)))) (sym is)
     (judged os group last_try now tries)
 
 -- ---- what the verdict that takes a peer says

@@ -1,13 +1,16 @@
 -- The open outbound peers with their network groups, in the order in which they were opened.
+-- Bitcoin Core keeps the groups apart in `CConnman::ThreadOpenConnections` in net.cpp.
 use Rattle.std.specs.Prelude.{◌≢◌, ℕ, List, [], ◌∷◌, ◌++◌, map, filter, not, Bool, AllPairs, bytes_eq}
 use Rattle.std.specs.List.{list_any}
 use Rattle.net_addr.specs.Same.{same_peer}
 use Rattle.net_addr.specs.declared.peer.Peer.{Peer}
 
+-- An open peer, with the group that it counts in.
 pub record Outbound : Type 0 where
   pub peer : Peer
   pub group : List ℕ
 
+-- The open peer with this group.
 abbrev pub outbound : Peer → List ℕ → Outbound
 outbound peer group = record { peer = peer; group = group }
 
@@ -23,6 +26,7 @@ peers open_peers = map (λ o. o.peer) open_peers
 abbrev pub AreApart : List Outbound → Type 0
 AreApart open_peers = AllPairs (λ a b. a.group ≢ b.group) open_peers
 
+-- The open peer counts in this group.
 abbrev pub is_in_group : List ℕ → Outbound → Bool
 is_in_group group o = bytes_eq o.group group
 

@@ -32,6 +32,7 @@ abbrev pub lacks_useful_services : OpenRules → ℕ → Bool
 lacks_useful_services rules services =
     not (rules.services == 0) && bit_and services 1025 == 0
 
+-- The network is IPv4 or IPv6.
 abbrev pub is_ip : Net → Bool
 is_ip Ipv4 = true
 is_ip Ipv6 = true
@@ -47,6 +48,7 @@ bad_ports =
     1723 ∷ 2049 ∷ 3306 ∷ 3389 ∷ 3659 ∷ 4045 ∷ 5060 ∷ 5061 ∷ 5432 ∷ 5900 ∷ 6000 ∷ 6566 ∷ 6665 ∷
     6666 ∷ 6667 ∷ 6668 ∷ 6669 ∷ 6697 ∷ 10080 ∷ 27017 ∷ []
 
+-- The port is one of another service (`IsBadPort`).
 abbrev pub is_bad_port : ℕ → Bool
 is_bad_port port = list_any (λ bad. bad == port) bad_ports
 

@@ -1,3 +1,5 @@
+//! The limits as numbers.
+
 ghost use Rattle.std.specs.Prelude.{◌≡◌};
 ghost use Rattle.peer_open.specs.Rules.{bad_ports};
 ghost use Rattle.peer_open.specs.declared.opener.TheConstants.{MAX_OUTBOUND, MAX_TRIES};

@@ -1,6 +1,9 @@
+//! `Opener`: `judge`, `judge_feeler`, `add_peer`, `add_counted` and `close_peer`, with
+//! `MAX_OUTBOUND` and `MAX_TRIES`.
+
 ghost use Rattle.std.specs.Prelude.{◌≡◌, ◌<◌, ◌≤◌, ◌↔◌, [], length, Contains, IfOk, IsTrue};
 ghost use Rattle.peer_open.specs.Groups.{AreApart, groups, peers, has_group, is_open, with_peer, without_peer};
-ghost use Rattle.peer_open.specs.Verdicts.{IsTooSoon, judge, judge_feeler, is_recent};
+ghost use Rattle.peer_open.specs.Verdicts.{judge, judge_feeler, is_recent};
 ghost use Rattle.peer_open.specs.declared.outbound.Verdict as verdict;
 
 use crate::outbound::Outbound;
@@ -69,7 +72,7 @@ impl Opener {
         ensures value { result ≡ judge self.now group.now last_try now tries }
         ensures same_group { result ≡ Verdict.SameGroup ↔ Contains (groups self.now) group.now }
         ensures recent { result ≡ Verdict.Recent
-            ↔ ((¬ Contains (groups self.now) group.now) × IsTooSoon last_try now tries) }
+            ↔ ((¬ Contains (groups self.now) group.now) × IsTrue (is_recent last_try now tries)) }
     {
         let has_group = self.has_group(group);
         if has_group {
@@ -83,7 +86,7 @@ impl Opener {
     /// count for such a connection. The arguments are those of `judge`.
     pub fn judge_feeler(&self, last_try: u32, now: u32, tries: u32) -> Verdict
         ensures value { result ≡ judge_feeler last_try now tries }
-        ensures recent { result ≡ Verdict.Recent ↔ IsTooSoon last_try now tries }
+        ensures recent { result ≡ Verdict.Recent ↔ IsTrue (is_recent last_try now tries) }
     {
         if is_recent(last_try, now, tries) {
             Verdict::Recent

@@ -1,3 +1,5 @@
+//! `Verdict` on a candidate, and `Outbound`, an open peer with the group that it counts in.
+
 ghost use Rattle.std.specs.Prelude.{◌≡◌, not};
 ghost use Rattle.net_addr.specs.Same.{same_peer};
 ghost use Rattle.peer_open.specs.Groups.{outbound, is_in_group};

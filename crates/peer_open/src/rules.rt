@@ -1,3 +1,6 @@
+//! `OpenRules`, the rules of Bitcoin Core that options choose: the group that a peer counts in, and
+//! the services and ports (`BAD_PORTS`) that rule it out.
+
 ghost use Rattle.std.specs.Prelude.{◌≡◌};
 ghost use Rattle.peer_open.specs.Rules.{counted_group, has_bad_port, is_bad_port, is_ip, lacks_services, lacks_useful_services, no_rules, own_group};
 

@@ -4,6 +4,7 @@ use Rattle.net_addr.specs.declared.peer.Peer.{Peer}
 use Rattle.peer_rec.specs.declared.rec.Rec.{Rec}
 use Rattle.peer_rec.specs.declared.place.Place.TheVariants.{Tried}
 
+-- The record of a peer with nothing known of it.
 abbrev pub blank_record : Peer → Rec
 blank_record peer = record {
   number = 0;

@@ -12,6 +12,7 @@ use Rattle.peer_rec.specs.declared.rec.Rec.{Rec}
 use Rattle.peer_rec.specs.declared.place.Place.{Place}
 use Rattle.peer_rec.specs.declared.place.Place.TheVariants.{New, Tried}
 
+-- The buckets of the new table that a place has; none if it is in the tried table.
 abbrev pub buckets_by : Place → List ℕ
 buckets_by (New buckets) = buckets
 buckets_by Tried = []
@@ -20,10 +21,12 @@ buckets_by Tried = []
 abbrev pub buckets_of : Rec → List ℕ
 buckets_of r = buckets_by r.place
 
+-- The place is in the tried table.
 abbrev pub tried_by : Place → Bool
 tried_by (New buckets) = false
 tried_by Tried = true
 
+-- The record is in the tried table.
 abbrev pub is_tried : Rec → Bool
 is_tried r = tried_by r.place
 
@@ -38,6 +41,7 @@ pub record AreBuckets (buckets : List ℕ) : Type 0 where
   pub below : All (λ b. b < NEW_BUCKETS) buckets
   pub rising : IsStrictlyIncreasing buckets
 
+-- The place is one that a record can have.
 abbrev pub IsPlace : Place → Type 0
 IsPlace (New buckets) = AreBuckets buckets
 IsPlace Tried = Unit {0}
@@ -75,3 +79,8 @@ chance r now =
     let tries = min r.attempts 8 in
     let parts = (2 ^ 30 * 66 ^ tries) / 100 ^ tries in
     if nat_lt now (r.last_try + 600) then parts / 100 else parts
+
+-- the factor that a search multiplies chances with grows by a fifth after each record that it
+-- refuses (`AddrManImpl::Select_`)
+abbrev pub next_factor : ℕ → ℕ
+next_factor factor = min (factor + factor / 5) (2 ^ 60)

@@ -1,4 +1,5 @@
--- What a file of peers has, and what each of its records has.
+-- What a file of peers has, and what each of its records has. It is what `AddrManImpl::Serialize`
+-- in addrman.cpp of Bitcoin Core writes.
 use Rattle.std.specs.Prelude.{◌≡◌, ℕ, ◌<◌, ◌≤◌, ◌^◌, List, length, All, AllPairs}
 use Rattle.net_addr.specs.Address.{IsAddress}
 use Rattle.peer_rec.specs.declared.file_rec.FileRec.{FileRec}
@@ -15,6 +16,7 @@ pub record Snapshot : Type 0 where
   pub listed : List (ℕ × ℕ)
   pub sum : List ℕ
 
+-- The snapshot with these parts.
 abbrev pub snapshot : List ℕ → List FileRec → List FileRec → ℕ → List (ℕ × ℕ) → List ℕ → Snapshot
 snapshot key new_recs tried_recs bucket_count listed sum = record {
   key = key;

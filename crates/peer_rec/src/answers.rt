@@ -1,3 +1,5 @@
+//! What calls of the tables answer: `Counts`, `Good`, `Picked`, `Fate`, `Resolved` and `Peers`.
+
 use host_io::ListOf;
 use net_addr::Peer;
 

@@ -1,3 +1,5 @@
+//! `Buckets`: the buckets of the new table that list a record, at most `MAX_LISTS`.
+
 ghost use Rattle.std.specs.Prelude.{◌≡◌, ◌+◌, ◌≤◌, ◌<◌, ◌∷◌, ◌++◌, [], length, filter, nat_lt, ◌==◌};
 ghost use Rattle.arrayvec.specs.ArrayVec.{array_vec_len};
 ghost use Rattle.peer_rec.specs.Buckets.{with_bucket, without_bucket};

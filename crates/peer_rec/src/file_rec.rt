@@ -1,3 +1,5 @@
+//! `FileRec`: a record as a file contains it; and `MAX_ATTEMPTS`.
+
 use host_io::ListOf;
 use net_addr::{NetAddr, Peer};
 

@@ -1,3 +1,5 @@
+//! The limits of records and files as numbers.
+
 ghost use Rattle.std.specs.Prelude.{◌≡◌};
 ghost use Rattle.peer_rec.specs.declared.buckets.TheConstants.{MAX_LISTS};
 ghost use Rattle.peer_rec.specs.declared.file_rec.TheConstants.{MAX_ATTEMPTS};

@@ -3,8 +3,8 @@
 //!
 //! Contracts see the fields as they are.
 //!
-//! Proved: changes of a record's buckets, whether it is terrible, and its chance of being picked,
-//! in parts of 2^30.
+//! Proved: changes of a record's buckets, whether it is terrible, its chance of being picked, in
+//! parts of 2^30, and the factor that a search multiplies chances with.
 #![tactic(auto)]
 
 mod answers;
@@ -20,5 +20,5 @@ pub use buckets::{Buckets, MAX_LISTS};
 pub use file_rec::{FileRec, FileRecs, MAX_ATTEMPTS};
 pub use law::limits;
 pub use place::Place;
-pub use rec::{Rec, Recs};
+pub use rec::{Rec, Recs, next_factor};
 pub use snapshot::{MAX_BUCKETS, MAX_NEW, MAX_TRIED, Pairs, Snapshot};

@@ -1,3 +1,5 @@
+//! `Place`: in the new table with its buckets, or in the tried table.
+
 ghost use Rattle.std.specs.Prelude.{◌≡◌, ◌<◌, ◌≤◌, length};
 ghost use Rattle.peer_rec.specs.declared.place.Place.TheVariants.{New};
 ghost use Rattle.peer_rec.specs.Rec.{buckets_by, tried_by};

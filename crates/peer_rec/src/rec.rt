@@ -1,4 +1,8 @@
-ghost use Rattle.std.specs.Prelude.{◌≡◌, ◌*◌, ◌/◌, ◌^◌, min};
+//! `Rec`: number, peer, source and times of a record, with `terrible` (`IsTerrible`) and `chance`
+//! (`GetChance`) and their limits in seconds.
+
+ghost use Rattle.std.specs.Prelude.{◌≡◌, ◌≤◌, ◌*◌, ◌/◌, ◌^◌, min};
+ghost use Rattle.peer_rec.specs.Rec.{next_factor};
 
 use crate::Place;
 use host_io::ListOf;
@@ -20,6 +24,8 @@ const MIN_FAIL: u64 = 604_800;
 const MAX_FAILURES: u32 = 10;
 /// Seconds in which a try counts as recent.
 const RECENT: u64 = 600;
+/// The factor of a search after which it grows no more.
+const MAX_FACTOR: u64 = 1 << 60;
 
 /// What is known of a peer. Times are seconds since 1970, 0 if the event has not happened
 /// (`AddrInfo` in addrman_impl.h of Bitcoin Core).
@@ -150,6 +156,16 @@ fn parts_after(attempts: u32) -> u64
         7 => 58_574_342,
         _ => 38_659_065,
     }
+}
+
+/// Returns the factor that a search multiplies chances with after it refused one more record: a
+/// fifth more (`AddrManImpl::Select_` in addrman.cpp of Bitcoin Core).
+pub fn next_factor(factor: u64) -> u64
+    requires max { factor ≤ 2 ^ 60 }
+    ensures value { result ≡ next_factor factor }
+    ensures max { result ≤ 2 ^ 60 }
+{
+    (factor + factor / 5).min(MAX_FACTOR)
 }
 
 /// A list of records.

@@ -1,3 +1,6 @@
+//! `Snapshot`: key, records, listed pairs and checksum, with `MAX_NEW`, `MAX_TRIED` and
+//! `MAX_BUCKETS`.
+
 ghost use Rattle.std.specs.Prelude.{◌≡◌, ◌≤◌, ◌<◌, length, All, AllPairs};
 ghost use Rattle.peer_rec.specs.declared.file_rec.TheConstants.{MAX_ATTEMPTS};
 ghost use Rattle.peer_rec.specs.declared.snapshot.TheConstants.{MAX_NEW, MAX_TRIED, MAX_BUCKETS};

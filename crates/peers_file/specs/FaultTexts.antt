@@ -4,6 +4,7 @@ use Rattle.peers_file.specs.declared.fault.FileFault.{FileFault}
 use Rattle.peers_file.specs.declared.fault.FileFault.TheVariants.{Truncated, BadMagic, BadSum, Compat, Version, Count, Record}
 use Rattle.peers_file.specs.declared.fault.FileFault.TheVariants.{Buckets, Time, Attempts, Trailing, TooLarge, Memory}
 
+-- The word of a fault.
 abbrev pub file_fault_text : FileFault → List ℕ
 file_fault_text Truncated = codes "truncated"
 file_fault_text BadMagic = codes "bad-magic"

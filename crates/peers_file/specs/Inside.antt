@@ -17,13 +17,15 @@ pub record IsWritten (snap : Snapshot) : Type 0 where
   pub buckets : snap.bucket_count ≡ NEW_BUCKETS
   pub few_listed : length snap.listed ≤ NEW_BUCKETS * SLOTS
 
--- a record before its peer, its peer and its source, and what comes after these
+-- The bytes of a record before its peer: layout, time and services.
 unfoldable pub front_text : FileRec → List ℕ
 front_text r = to_le_bytes w32 0x20035b60 ++ to_le_bytes w32 r.time ++ compact_size r.services
 
+-- The bytes of a record's peer and source.
 unfoldable pub who_text : FileRec → List ℕ
 who_text r = address_text r.peer.addr ++ to_be_bytes w16 r.peer.port ++ address_text r.source
 
+-- The bytes of a record after its source: last success and attempts.
 unfoldable pub marks_text : FileRec → List ℕ
 marks_text r = to_le_bytes w64 r.last_success ++ to_le_bytes w32 r.attempts
 

@@ -26,7 +26,8 @@ use Rattle.peers_file.specs.declared.fault.RecordCause.TheVariants as cause
 use Rattle.peers_file.specs.declared.fault.FileFault.{FileFault}
 use Rattle.peers_file.specs.declared.fault.FileFault.TheVariants.{Truncated, BadMagic, BadSum, Compat, Version, Count, Record, Buckets, Time, Attempts, Trailing, TooLarge, Memory}
 
--- the bytes that begin the files of a chain
+-- The bytes that begin the files of a chain (`pchMessageStart` in kernel/chainparams.cpp of Bitcoin
+-- Core).
 abbrev pub magic_of : Chain → List ℕ
 magic_of Main = 0xf9 ∷ 0xbe ∷ 0xb4 ∷ 0xd9 ∷ []
 magic_of Test = 0x0b ∷ 0x11 ∷ 0x09 ∷ 0x07 ∷ []
@@ -35,6 +36,7 @@ magic_of Signet = 0x0a ∷ 0x03 ∷ 0xcf ∷ 0x40 ∷ []
 magic_of Regtest = 0xfa ∷ 0xbf ∷ 0xb5 ∷ 0xda ∷ []
 magic_of (Other magic) = to_be_bytes w32 magic
 
+-- A format of wire_num as a field of the file: its faults are those of a file.
 abbrev pub field : {A : Type 0} → Format WireFault A → Format FileFault A
 field p = map_fault of_field p
 
@@ -42,6 +44,7 @@ field p = map_fault of_field p
 abbrev pub or_zero : Option Address → Address
 or_zero a = unwrap_or a (address Ipv6 (replicate 16 0))
 
+-- The record with these fields.
 abbrev pub file_rec : Address → ℕ → Address → ℕ → ℕ → ℕ → ℕ → FileRec
 file_rec addr port source time services last_success attempts = record {
   peer = record { addr = addr; port = port };
@@ -138,6 +141,7 @@ bucket_of new_count bucket = do
 abbrev pub sum_in : ℕ → Format FileFault (List ℕ)
 sum_in format = either (format == 1) (value (replicate 32 0)) (field (some_bytes 32))
 
+-- The head with these fields.
 abbrev pub head_with : ℕ → List ℕ → ℕ → ℕ → ℕ → Head
 head_with format key new_count tried_count bucket_count = record {
   format = format;

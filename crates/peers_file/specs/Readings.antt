@@ -23,19 +23,25 @@ use Rattle.peers_file.specs.declared.fault.FileFault.TheVariants.{Compat, Versio
 abbrev pub Read : Type 0 → Type 0
 Read A = List ℕ → Result (A × List ℕ) FileFault
 
+-- A reading of wire_num as one of the file: its faults are those of a file.
 abbrev pub field_at : {A : Type 0} → (List ℕ → Result (A × List ℕ) WireFault) → Read A
 field_at r = map_fault_at of_field r
 
+-- Reads the layout of a record: the version of the client that wrote it, of which only the high
+-- bits count.
 unfoldable pub layout_at : ℕ → ℕ → Read ℕ
 layout_at i high =
     then_at (field_at (le_at w32)) (λ n. check_at (n / 2 ^ 19 == high) (Record i cause.Version) n)
 
+-- Reads the last success of a record, a time below 2^32.
 unfoldable pub success_at : ℕ → Read ℕ
 success_at i = then_at (field_at (le_at w64)) (λ n. check_at (nat_lt n (2 ^ 32)) (Time i) n)
 
+-- Reads the attempts of a record, a number below 2^31.
 unfoldable pub attempts_at : ℕ → Read ℕ
 attempts_at i = then_at (field_at (le_at w32)) (λ n. check_at (nat_lt n (2 ^ 31)) (Attempts i) n)
 
+-- Reads a record of format 3 or 4, whose addresses have the form of BIP 155.
 unfoldable pub record_at : ℕ → Read FileRec
 record_at i =
     then_at (layout_at i (2 ^ 10)) (λ _.
@@ -48,6 +54,7 @@ record_at i =
     then_at (attempts_at i) (λ attempts.
     value_at (file_rec (or_zero peer) port (or_zero source) time services success attempts)))))))))
 
+-- Reads a record of format 1 or 2, whose addresses have sixteen bytes.
 unfoldable pub old_record_at : ℕ → Read FileRec
 old_record_at i =
     then_at (layout_at i 0) (λ _.
@@ -60,30 +67,36 @@ old_record_at i =
     then_at (attempts_at i) (λ attempts.
     value_at (file_rec (from_v1 peer) port (from_v1 source) time services success attempts)))))))))
 
+-- Reads a record of a format.
 abbrev pub record_in_at : ℕ → ℕ → Read FileRec
 record_in_at format i bytes = if nat_lt format 3 then old_record_at i bytes else record_at i bytes
 
+-- Reads the number of records of a table, up to a limit.
 unfoldable pub count_at : Which → ℕ → Read ℕ
 count_at kind limit =
     then_at (field_at (le_at w32))
     (λ n. check_at (nat_le n limit) (Count kind (cast_signed w32 n)) n)
 
+-- Reads the number of buckets, which is stored with bit 30 flipped.
 unfoldable pub buckets_at : Read ℕ
 buckets_at =
     then_at (field_at (le_at w32)) (λ coded.
     check_at (nat_le (bit_xor coded (2 ^ 30)) MAX_BUCKETS)
     (Buckets (cast_signed w32 (bit_xor coded (2 ^ 30)))) (bit_xor coded (2 ^ 30)))
 
+-- Reads a bucket: the number of its records and their indexes.
 unfoldable pub bucket_at : ℕ → ℕ → Read (List (ℕ × ℕ))
 bucket_at new_count bucket =
     then_at (field_at (le_at w32)) (λ entries.
     then_at (times_at 0 (entries_of entries) (λ _. field_at (le_at w32))) (λ indexes.
     value_at (pairs_with new_count bucket indexes)))
 
+-- Reads the checksum of the asmap, which is 32 zeros in format 1.
 abbrev pub sum_in_at : ℕ → Read (List ℕ)
 sum_in_at format bytes =
     if format == 1 then value_at (replicate 32 0) bytes else field_at (bytes_at 32) bytes
 
+-- Reads the head of the file: format, lowest compatible format, key, counts, and number of buckets.
 unfoldable pub head_at : Read Head
 head_at =
     then_at (field_at byte_at) (λ format.
@@ -96,11 +109,13 @@ head_at =
     then_at buckets_at (λ bucket_count.
     value_at (head_with format key new_count tried_count bucket_count)))))))))
 
+-- Reads all buckets, one after another.
 unfoldable pub all_buckets_at : ℕ → ℕ → Read (List (ℕ × ℕ))
 all_buckets_at new_count bucket_count =
     then_at (times_at 0 bucket_count (bucket_at new_count))
     (λ listed. value_at (flat_map (λ pairs. pairs) listed))
 
+-- Reads what is between the magic and the checksum of the file.
 unfoldable pub body_at : Read Snapshot
 body_at =
     then_at head_at (λ h.

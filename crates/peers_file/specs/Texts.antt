@@ -1,5 +1,5 @@
 -- How peers.dat is written, in format 4: each number and each length in the fewest bytes that it
--- fits.
+-- fits. `AddrManImpl::Serialize` in addrman.cpp of Bitcoin Core writes the same.
 use Rattle.std.specs.Prelude.{ℕ, ◌^◌, List, [], ◌∷◌, ◌++◌, length, map, filter, ◌==◌}
 use Rattle.std.specs.List.{flat_map, range_with_len}
 use Rattle.std.specs.Int.{w16, w32, w64, to_le_bytes, to_be_bytes}

@@ -1,3 +1,6 @@
+//! `Chain` and its `magic`: main, the testnets, signet, regtest, or a signet given by its four
+//! bytes.
+
 ghost use Rattle.std.specs.Prelude.{◌≡◌};
 ghost use Rattle.peers_file.specs.Layout.{magic_of};
 
@@ -16,7 +19,7 @@ pub enum Chain {
 impl Chain {
     /// Returns the four bytes that begin the messages and files of the chain (`pchMessageStart` in
     /// kernel/chainparams.cpp of Bitcoin Core).
-    pub(crate) fn magic(self) -> [u8; 4]
+    pub fn magic(self) -> [u8; 4]
         ensures { result ≡ magic_of self }
     {
         match self {

@@ -1,3 +1,5 @@
+//! `FileFault`, `RecordCause` and `Which`: the first fault of a file and its printed word.
+
 ghost use Rattle.std.specs.Prelude.{◌≡◌};
 ghost use Rattle.peers_file.specs.FaultTexts.{file_fault_text};
 ghost use Rattle.peers_file.specs.Faults.{of_field, of_number, of_address};

@@ -1,3 +1,6 @@
+//! `Head`, what comes before the records: format, key, counts, and the number of buckets (with bit
+//! 30).
+
 ghost use Rattle.std.specs.Prelude.{◌≤◌, ◌^◌, IfOk};
 ghost use Rattle.std.specs.Int.Bits.{bit_xor};
 ghost use Rattle.wire_num.specs.Readings.{Gives, then_at, value_at, bytes_at};

@@ -1,3 +1,5 @@
+//! The length of a file before it is written: `record_length`, `EMPTY_FILE` and `RECORD_ROOM`.
+
 ghost use Rattle.std.specs.Prelude.{◌≡◌, ◌≤◌, length};
 ghost use Rattle.wire_num.specs.CompactSize.{compact_size};
 ghost use Rattle.addr_codecs.specs.Texts.{address_text, prefix_of};

@@ -30,7 +30,7 @@ mod write;
 
 pub use chain::Chain;
 pub use fault::{FileFault, RecordCause, Which};
-pub use law::files_have_one_meaning;
+pub use law::{files_have_one_meaning, limits};
 pub use length::{EMPTY_FILE, record_length};
 pub use listing::snapshot_text;
 pub use read::{MAX_FILE, read_file};

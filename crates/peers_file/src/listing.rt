@@ -1,3 +1,5 @@
+//! `snapshot_text`, the output of `show`: a line for the file and one for each record.
+
 ghost use Rattle.std.specs.Prelude.{◌≡◌, ◌++◌, IfOk, OnOk};
 ghost use Rattle.peers_file.specs.Listing.{totals_text, key_text, summary_line, origin_text, history_text, record_line, record_lines, snapshot_text};
 

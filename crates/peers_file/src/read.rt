@@ -1,3 +1,5 @@
+//! `read_file`: magic, checksum and body, of at most `MAX_FILE` (32 MiB).
+
 ghost use Rattle.std.specs.Prelude.{◌≡◌, ◌≢◌, ◌≤◌, ◌<◌, length, vec_len, All, IfOk, IfErr, Ok, Err, MatchResult, None, Some, bytes_eq};
 ghost use Rattle.wire_num.specs.Readings.{Gives, all_of, then_at, times_at, value_at};
 ghost use Rattle.peer_rec.specs.Snapshot.{snapshot};

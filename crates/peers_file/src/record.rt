@@ -1,3 +1,5 @@
+//! Reads one record: layout, addresses in either form, source, times and attempts.
+
 ghost use Rattle.std.specs.Prelude.{◌≡◌, ◌≤◌, ◌/◌, IfOk};
 ghost use Rattle.std.specs.Int.{w16};
 ghost use Rattle.net_addr.specs.OldForm.{from_v1};

@@ -1,3 +1,5 @@
+//! Reads what is repeated: the records of a table, and the indexes of buckets.
+
 ghost use Rattle.std.specs.Prelude.{◌≡◌, ◌≤◌, ◌<◌, ◌+◌, vec_len, All, AllPairs, IfOk};
 ghost use Rattle.std.specs.Int.{w32};
 ghost use Rattle.wire_num.specs.Readings.{Gives, then_at, times_at, value_at, le_at};

@@ -1,3 +1,6 @@
+//! `write_file` writes the head, the records, the buckets and the sums, in memory of exactly that
+//! length.
+
 ghost use Rattle.std.specs.Prelude.{◌≡◌, ◌*◌, ◌≤◌, ◌<◌, ◌^◌, ◌++◌, length, All, AllPairs, IfOk, OnOk, ◌==◌};
 ghost use Rattle.std.specs.List.{flat_map, take_while, range_with_len};
 ghost use Rattle.std.specs.Int.{w32, to_le_bytes};

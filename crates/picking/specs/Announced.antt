@@ -1,4 +1,4 @@
--- What is announced of the tables.
+-- What is announced of the tables. Bitcoin Core samples in `AddrManImpl::GetAddr_` in addrman.cpp.
 use Rattle.std.specs.Prelude.{◌≡◌, ℕ, List, Contains, true}
 use Rattle.net_addr.specs.declared.peer.Peer.{Peer}
 use Rattle.peer_rec.specs.declared.rec.Rec.{Rec}

@@ -1,3 +1,6 @@
+//! `first_candidate`: the first record of a set of networks in a bucket, searched from a slot on
+//! and around.
+
 ghost use Rattle.std.specs.Prelude.{◌≡◌, ℕ, ◌<◌, ◌≤◌, IfSome, IfNone, ◌+◌, ◌*◌, ◌-◌, Some, IsSome, option_map};
 ghost use Rattle.std.specs.Int.{bit_at};
 ghost use Rattle.table_machine.specs.Picks.{bucket_count, first_candidate, is_wanted, occupant_at};

@@ -1,3 +1,5 @@
+//! `sample_by`: a sample whose random words are drawn as they are needed.
+
 ghost use Rattle.std.specs.Prelude.{◌≡◌, ◌≤◌, ◌<◌, length, IfOk, OnOk, OnErr, vec_len, vec_capacity};
 ghost use Rattle.table_machine.specs.Picks.{sample, sample_from, sample_limit};
 ghost use Rattle.table_machine.specs.Sound.{IsSound};

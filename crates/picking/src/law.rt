@@ -1,3 +1,5 @@
+//! Laws of samples: at most the limit, only eligible records, and a number of words that suffices.
+
 ghost use Rattle.std.specs.Prelude.{◌≡◌, ℕ, ◌≤◌, ◌*◌, List, ◌++◌, length, ◌≢◌};
 ghost use Rattle.std.specs.List.{AllByRecursion};
 ghost use Rattle.table_machine.specs.State.{State};

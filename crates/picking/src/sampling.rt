@@ -1,3 +1,6 @@
+//! `sample` (`GetAddr_`): exchanges in the order, the percentage and the eligible records; with
+//! `SampleFault` and `sample_limit`.
+
 ghost use Rattle.std.specs.Prelude.{◌≡◌, ◌≤◌, length, ◌+◌, ◌-◌, ◌%◌, ◌<◌, option_to_list, ◌^◌, ℕ, Err, IfOk, OnOk, OnErr, vec_len, vec_capacity};
 ghost use Rattle.picking.specs.declared.sampling.SampleFault.{SampleFault};
 ghost use Rattle.table_machine.specs.Picks.{is_eligible, sample_limit, eligible_at, order_swap, sample, sample_from};
@@ -47,7 +50,7 @@ pub(crate) fn count_of<H: BuildHasher>(tables: &Tables<'_, H>) -> u32
     counts.new_count + counts.tried_count
 }
 
-/// Returns how many peers a sample of `count` records may have: at most `most`, and at most
+/// Returns how many peers a sample of `count` records may have: at most `max`, and at most
 /// `percent` percent of the records. For both, 0 is no limit.
 pub(crate) fn sample_limit(count: u32, max: u32, percent: u32) -> u32
     requires percent { percent ≤ 100 }

@@ -1,10 +1,13 @@
-ghost use Rattle.std.specs.Prelude.{◌≡◌, ◌+◌, ◌*◌, ◌≤◌, ◌^◌, length, option_map, ◌/◌};
-ghost use Rattle.table_machine.specs.Picks.{candidate, candidates, first_accepted, first_factor, is_accepted, next_factor, candidates_of, candidates_of_either, select};
+//! `select` and `select_by` (`Select_`): rounds, the chance times the factor, and one table or
+//! both.
+
+ghost use Rattle.std.specs.Prelude.{◌≡◌, ◌+◌, ◌*◌, ◌≤◌, length, option_map, ◌/◌};
+ghost use Rattle.table_machine.specs.Picks.{candidate, candidates, first_accepted, first_factor, is_accepted, candidates_of, candidates_of_either, select};
 ghost use Rattle.peer_rec.specs.declared.answers.Picked.TheVariants.{Exhausted};
 
 use crate::bucket::first_candidate;
 use net_addr::NetSet;
-use peer_rec::{Picked, Rec};
+use peer_rec::{Picked, Rec, next_factor};
 use random_words::Draws;
 use slot_grid::{NEW_BUCKETS, SLOTS, TRIED_BUCKETS};
 use std::hash::BuildHasher;
@@ -14,8 +17,6 @@ use tables::Tables;
 
 /// Chances and factors are in parts of this number.
 const PARTS: u64 = 1 << 30;
-/// The maximum of the factor.
-const MAX_FACTOR: u64 = 1 << 60;
 
 /// Returns the candidate of a round: the first wanted record of the bucket that one random word
 /// selects, from the slot on that another word selects.
@@ -48,15 +49,6 @@ fn is_accepted(rec: &Rec, now: u32, factor: u64, word: u64) -> bool
 {
     let part = u128::from(word % PARTS) * u128::from(PARTS);
     part < u128::from(rec.chance(now)) * u128::from(factor)
-}
-
-/// Returns the factor after one more record was refused: a fifth more.
-fn next_factor(factor: u64) -> u64
-    requires max { factor ≤ 2 ^ 60 }
-    ensures value { result ≡ next_factor factor }
-    ensures max { result ≤ 2 ^ 60 }
-{
-    (factor + factor / 5).min(MAX_FACTOR)
 }
 
 /// Searches one table, at a time in seconds since 1970. Each round selects a bucket and a slot by

@@ -33,6 +33,7 @@ HasSources view = (in_new : Bool) (bucket slot : ℕ) →
 abbrev pub HasAddresses : Rec → Type 0
 HasAddresses r = IsAddress r.source × IsAddress r.peer.addr
 
+-- The records in all slots have addresses.
 abbrev pub HasPeers : View → Type 0
 HasPeers view = (in_new : Bool) (bucket slot : ℕ) →
     IfSome (occupant_at view in_new bucket slot) HasAddresses

@@ -1,3 +1,6 @@
+//! Laws of a picture: it is one tree of elements, its numbers count slots and buckets, and its dots
+//! show each slot.
+
 ghost use Rattle.std.specs.Prelude.{◌≡◌, ◌<◌, ℕ, true, List, All, Some, codes};
 ghost use Rattle.peer_rec.specs.declared.rec.Rec.{Rec};
 ghost use Rattle.picture_laws.specs.Counts.{CountsSlots, CountsWide, IsBehind};
@@ -47,6 +50,12 @@ pub fn pictures_of_sets_are_trees()
 
 /// The numbers of the list and of the titles count slots and buckets of the tables by the groups of
 /// the records in them.
+///
+/// A listed group has the number of slots of both tables whose record has a source in it, of these
+/// the number of slots of the tried table, and the number of buckets of the new table that have
+/// such a slot. The row of the other groups counts the slots whose record has a source in none of
+/// the listed ones. Each listed group is listed once, so these rows together count each occupied
+/// slot once.
 pub fn slots_are_counted()
     ensures { (view : View) → CountsSlots view }
 {}

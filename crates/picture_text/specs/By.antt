@@ -1,4 +1,5 @@
--- What the colours of a picture go by, as its texts say it.
+-- What the colours of a picture go by, as its texts say it. The colours on a dark ground are those
+-- of a media query (Media Queries 5).
 use Rattle.std.specs.Prelude.{ℕ, List, [], ◌∷◌, ◌++◌, codes}
 use Rattle.std.specs.List.{flat_map}
 use Rattle.picture_text.specs.Elements.{label}
@@ -25,6 +26,7 @@ list_title Age = codes "Ages with the most slots"
 abbrev pub sets_meaning : List ℕ
 sets_meaning = codes "the first set in the list that has the peer."
 
+-- The title of the list of sets.
 abbrev pub sets_title : List ℕ
 sets_title = codes "Sets of peers"
 
@@ -36,14 +38,14 @@ dots = codes "A square is a bucket, and a dot in it is an occupied slot. Its col
 unfoldable pub description : List ℕ → List ℕ
 description meaning = codes "<desc>" ++ (dots ++ (meaning ++ codes "</desc>\n"))
 
--- the colours of the marks, each by what its text ends with: on a light ground, and on a dark one
--- if the reader prefers that
+-- The colours of the marks on a light ground, each by what its text ends with.
 abbrev pub light_styles : List ℕ
 light_styles =
     codes "[fill$=e00]{fill:#652c01}[fill$=b2]{fill:#00396f}[fill$=e73]{fill:#49a97a}"
     ++ (codes "[fill$=a7]{fill:#b61b50}[fill$=f00]{fill:#d8a810}[fill$=e9]{fill:#8a4fbf}"
     ++ codes "[fill$=a]{fill:#8b949e}")
 
+-- The colours of the marks on a dark ground, if the reader prefers that.
 abbrev pub dark_styles : List ℕ
 dark_styles =
     codes "@media(prefers-color-scheme:dark){text{fill:#e6e9ed}.k{fill:#9aa4af}"
@@ -87,6 +89,7 @@ axis_labels =
     ∷ at (codes "1056") (codes "444") (codes "n k") (codes "new buckets")
     ∷ []
 
+-- The labels of the axes.
 unfoldable pub axes_text : List ℕ
 axes_text = flat_map (λ l. label l.x l.y l.class l.text) axis_labels
 
@@ -111,8 +114,10 @@ head_with meaning title facts =
     title_text ++ (description meaning ++ (grounds_text
     ++ (meaning_label meaning ++ (facts_label facts ++ (axes_text ++ list_label title)))))
 
+-- The head of a picture, by what its colours show.
 abbrev pub head_by : By → List ℕ → List ℕ
 head_by by facts = head_with (colour_meaning by) (list_title by) facts
 
+-- The head of a picture whose colours show sets of addresses.
 abbrev pub sets_head : List ℕ → List ℕ
 sets_head facts = head_with sets_meaning sets_title facts

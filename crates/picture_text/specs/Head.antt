@@ -1,4 +1,4 @@
--- What each picture has.
+-- What each picture has. A picture is an SVG 2 document.
 use Rattle.std.specs.Prelude.{ℕ, List, [], ◌∷◌, ◌++◌, codes}
 use Rattle.std.specs.List.{flat_map}
 use Rattle.picture_text.specs.Elements.{label}
@@ -10,6 +10,7 @@ svg_attributes =
     (codes "xmlns", codes "http://www.w3.org/2000/svg") ∷ (codes "viewBox", codes "0 0 1080 712")
     ∷ (codes "role", codes "img") ∷ []
 
+-- The opening tag of the picture's element.
 unfoldable pub opening_text : List ℕ
 opening_text =
     codes "<svg xmlns=\"http://www.w3.org/2000/svg\" viewBox=\"0 0 1080 712\" role=\"img\">\n"
@@ -20,6 +21,7 @@ meaning =
     codes "A square is a bucket, and a dot in it is an occupied slot."
     ++ codes " Its colour is the group of the source that first announced the peer."
 
+-- The styles of the texts.
 abbrev pub styles : List ℕ
 styles =
     codes "text{font:13px sans-serif;fill:#1b1f24}.h{font-size:20px}.b{font-weight:bold}"
@@ -31,6 +33,7 @@ tile =
     single (codes "path")
     ((codes "fill", codes "#eceff2") ∷ (codes "d", codes "M0 0h8v8h-8z") ∷ []) []
 
+-- The attributes of the pattern that repeats a free tile.
 abbrev pub tile_attributes : List (List ℕ × List ℕ)
 tile_attributes =
     (codes "id", codes "free") ∷ (codes "width", codes "9") ∷ (codes "height", codes "9")
@@ -47,12 +50,14 @@ head_text =
     ((codes "width", codes "1080") ∷ (codes "height", codes "712")
     ∷ (codes "fill", codes "#fff") ∷ []) (codes "\n"))))
 
+-- A label: its coordinates, its class of style, and its text.
 pub record Label : Type 0 where
   pub x : List ℕ
   pub y : List ℕ
   pub class : List ℕ
   pub text : List ℕ
 
+-- The label with these parts.
 abbrev pub at : List ℕ → List ℕ → List ℕ → List ℕ → Label
 at x y class text = record { x = x; y = y; class = class; text = text }
 
@@ -87,5 +92,6 @@ labels =
     (codes "in theirs, and keeps the colour of its first source.")
     ∷ []
 
+-- The labels of the usual picture.
 unfoldable pub labels_text : List ℕ
 labels_text = flat_map (λ l. label l.x l.y l.class l.text) labels

@@ -4,6 +4,7 @@ use Rattle.std.specs.List.{flat_map, range_with_len}
 use Rattle.dot_runs.specs.Tables.{path_text}
 use Rattle.picture_text.specs.Elements.{colour}
 
+-- The name at an index; empty if there is none.
 abbrev pub name_at : List (List ℕ) → ℕ → List ℕ
 name_at names index = slice_index_or names index []
 

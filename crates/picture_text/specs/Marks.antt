@@ -18,6 +18,7 @@ dots_of marks mark = count_by (λ m. m == mark) marks
 abbrev pub in_bucket : List ℕ → ℕ → List ℕ
 in_bucket marks bucket = take SLOTS (drop (SLOTS * bucket) marks)
 
+-- Some slot has this mark.
 abbrev pub has_mark : List ℕ → ℕ → Bool
 has_mark marks mark = list_any (λ m. m == mark) marks
 

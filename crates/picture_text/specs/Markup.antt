@@ -7,6 +7,7 @@ pub use Rattle.table_groups.specs.Plain.{IsPlain, is_plain}
 abbrev pub is_character : ℕ → Bool
 is_character b = is_plain b || b == 10
 
+-- A letter of ASCII.
 abbrev pub is_letter : ℕ → Bool
 is_letter b = nat_le 97 b && nat_le b 122 || nat_le 65 b && nat_le b 90
 
@@ -19,6 +20,7 @@ is_name (b ∷ bs) = is_letter b && list_all (λ c. is_letter c || c == 45) bs
 abbrev pub Attribute : Type 0
 Attribute = List ℕ × List ℕ
 
+-- A name and a value that may stand in a tag.
 abbrev pub is_attribute : Attribute → Bool
 is_attribute a = is_name a.0 && list_all is_plain a.1
 
@@ -55,6 +57,7 @@ pub data Content : Type 0 where
   nested : (name : List ℕ) → (attributes : List Attribute) → (inner after : Content)
       → Content
 
+-- All names, attributes and character data in a content are in form.
 abbrev pub is_content : Content → Bool
 is_content Content.end = true
 is_content (Content.characters text after) = list_all is_character text && is_content after
@@ -62,6 +65,7 @@ is_content (Content.empty name attributes after) = is_tag name attributes && is_
 is_content (Content.nested name attributes inner after) =
     is_tag name attributes && (is_content inner && is_content after)
 
+-- The text of a content.
 abbrev pub content_text : Content → List ℕ
 content_text Content.end = []
 content_text (Content.characters text after) = text ++ content_text after

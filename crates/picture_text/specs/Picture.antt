@@ -13,10 +13,11 @@ use Rattle.slot_grid.specs.declared.sizes.TheConstants.{NEW_SLOTS}
 use Rattle.picture_text.specs.declared.by.By.{By}
 use Rattle.table_groups.specs.declared.sources.Source.{Source}
 
--- the marks of the new table's slots, and those of the tried table's, which come after them
+-- The marks of the new table's slots, which come first.
 unfoldable pub in_new : List ℕ → List ℕ
 in_new marks = take NEW_SLOTS marks
 
+-- The marks of the tried table's slots, which come after those of the new table.
 unfoldable pub in_tried : List ℕ → List ℕ
 in_tried marks = drop NEW_SLOTS marks
 
@@ -54,11 +55,13 @@ group_row s name index =
     row_text (top_of index) (colour index) name (s.new + s.tried) s.tried
     ++ count_text 1056 (top_of index + 10) s.buckets
 
+-- The listed group at an index; one without slots if there is none.
 abbrev pub source_at : List Source → ℕ → Source
 source_at listed index =
     slice_index_or listed index
     (record { group = record { items = [] }; new = 0; tried = 0; buckets = 0 })
 
+-- The rows of the listed groups.
 unfoldable pub group_rows : List Source → List (List ℕ) → List ℕ
 group_rows listed names =
     flat_map (λ index. group_row (source_at listed index) (name_at names index) index)
@@ -140,6 +143,7 @@ spread_body by sources marks names over =
     ++ (wide_text (wide_of sources)
     ++ (mark_row over 8 9 (spread_name (spread_of by sources)) ++ notes_by by))))
 
+-- The whole picture, with marks and notes of the groups that spread.
 unfoldable pub spread_picture : By → List ℕ → List Source → List ℕ → List (List ℕ) → List ℕ
     → List ℕ
 spread_picture by facts sources marks names over =
@@ -158,6 +162,7 @@ set_numbers marks index = record {
   buckets = buckets_of marks (index + 1);
 }
 
+-- The numbers of all sets.
 abbrev pub sets_in : List ℕ → ℕ → List Source
 sets_in marks count = map (set_numbers marks) (range_with_len 0 count)
 

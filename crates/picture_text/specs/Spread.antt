@@ -26,9 +26,10 @@ is_spread Group s = reaches_beyond 1024 32 s.new s.buckets
 is_spread Network s = false
 is_spread Age s = false
 
--- the groups that are not listed, and how many of them spread
+-- The groups that are not listed: all after the first six.
 abbrev pub unlisted_in : List OneSource → List OneSource
 unlisted_in sources = drop 6 sources
 
+-- The number of groups that are not listed and spread.
 unfoldable pub spread_of : By → List OneSource → ℕ
 spread_of by sources = count_by (is_spread by) (unlisted_in sources)

@@ -1,3 +1,5 @@
+//! `By`: what the colours show (`--by`), with the titles, labels and description of each.
+
 ghost use Rattle.std.specs.Prelude.{◌≡◌, ◌++◌, OnOk};
 ghost use Rattle.picture_text.specs.By.{axes_text, colour_meaning, description, dots, facts_label, grounds_text, head_by, head_with, list_label, list_title, meaning_label, sets_head, title_text};
 

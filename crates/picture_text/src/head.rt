@@ -1,3 +1,5 @@
+//! The opening element, the styles, the grounds and the labels of the usual picture.
+
 ghost use Rattle.std.specs.Prelude.{◌≡◌};
 ghost use Rattle.picture_text.specs.Head.{head_text, labels_text, opening_text};
 

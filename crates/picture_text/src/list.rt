@@ -1,3 +1,5 @@
+//! The list below the maps: the six groups, the others, and the free slots.
+
 ghost use Rattle.std.specs.Prelude.{◌≡◌, ◌+◌, ◌*◌, ◌<◌, ◌≤◌, ◌++◌, length, map, OnOk, IfOk};
 ghost use Rattle.picture_text.specs.Picture.{free_row, group_row, group_rows, mark_row, others_name, others_row, others_text, rows_text, source_at, top_of};
 ghost use Rattle.slot_grid.specs.declared.sizes.TheConstants.{ALL_SLOTS};

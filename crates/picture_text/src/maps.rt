@@ -1,3 +1,5 @@
+//! The map of a table: its ground, and a path for each mark with its `title`.
+
 ghost use Rattle.std.specs.Prelude.{◌≡◌, ◌<◌, ◌≤◌, ◌++◌, length, map, OnOk};
 ghost use Rattle.picture_text.specs.Maps.{ground_text, map_opening, map_text, map_with, name_at, path_element, paths_text};
 ghost use Rattle.slot_grid.specs.declared.sizes.TheConstants.{NEW_SLOTS};

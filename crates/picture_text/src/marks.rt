@@ -1,3 +1,6 @@
+//! `group_mark` is 1 to 6 for a listed group and 7 for the others. Also counts the slots that have
+//! a mark.
+
 ghost use Rattle.std.specs.Prelude.{◌≡◌, ◌≤◌, ◌<◌, length, if◌then◌else◌};
 ghost use Rattle.picture_text.specs.Marks.{buckets_of, dots_of, group_mark, has_mark, in_bucket};
 ghost use Rattle.slot_grid.specs.declared.sizes.TheConstants.{ALL_SLOTS, NEW_BUCKETS};

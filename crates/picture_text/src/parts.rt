@@ -1,3 +1,5 @@
+//! Which marks are the new table's and which the tried table's.
+
 ghost use Rattle.std.specs.Prelude.{◌≡◌, ◌+◌, ◌≤◌, length, take, drop};
 ghost use Rattle.picture_text.specs.Picture.{in_new, in_tried};
 ghost use Rattle.slot_grid.specs.declared.sizes.TheConstants.{ALL_SLOTS, NEW_SLOTS, TRIED_SLOTS};

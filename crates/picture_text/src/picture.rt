@@ -1,3 +1,5 @@
+//! `put_picture` and `put_picture_by`: the whole text in order, with counts in the titles.
+
 ghost use Rattle.std.specs.Prelude.{◌≡◌, ◌+◌, ◌<◌, ◌≤◌, ◌++◌, length, map, IfOk, OnOk};
 ghost use Rattle.picture_text.specs.Elements.{new_title, tried_title, wide_text};
 ghost use Rattle.picture_text.specs.Picture.{body_text, listed_in, maps_text, maps_with, names_of, occupied, others_of, picture_by_text, picture_text, titles_text, wide_of};

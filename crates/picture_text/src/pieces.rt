@@ -1,3 +1,5 @@
+//! The colours, and a row of the list: swatch, name and counts.
+
 ghost use Rattle.std.specs.Prelude.{◌≡◌, ◌+◌, ◌<◌, ◌^◌, ◌++◌, OnOk};
 ghost use Rattle.picture_text.specs.Elements.{colour, count_text, name_text, row_text, swatch};
 

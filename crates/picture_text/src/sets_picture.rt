@@ -1,3 +1,5 @@
+//! `put_sets_picture`: the picture whose colours show at most six sets of addresses (`--mark`).
+
 ghost use Rattle.std.specs.Prelude.{◌≡◌, ◌≤◌, ◌<◌, ◌++◌, length, map, IfOk, OnOk};
 ghost use Rattle.picture_text.specs.Picture.{set_numbers, sets_in, sets_picture, sets_rows};
 ghost use Rattle.slot_grid.specs.declared.sizes.TheConstants.{ALL_SLOTS};

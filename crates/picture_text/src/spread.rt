@@ -1,3 +1,6 @@
+//! `is_spread`: whether a group reaches more buckets than an honest one of its size would, by a
+//! mean and a root.
+
 ghost use Rattle.std.specs.Prelude.{◌≡◌, ◌<◌, ◌≤◌, ◌*◌, length};
 ghost use Rattle.picture_text.specs.Spread.{is_spread, reached, reaches_beyond, spread_of, unlisted_in};
 

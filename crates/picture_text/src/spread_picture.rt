@@ -1,3 +1,5 @@
+//! `put_spread_picture`: the picture with the marks and notes of groups that spread.
+
 ghost use Rattle.std.specs.Prelude.{◌≡◌, ◌≤◌, ◌++◌, length, map, IfOk, OnOk};
 ghost use Rattle.picture_text.specs.Notes.{first_note, honest_text, notes_by, second_note};
 ghost use Rattle.picture_text.specs.Picture.{listed_in, spread_body, spread_name, spread_picture};

@@ -39,10 +39,12 @@ abbrev is_bits : SumRule → Bool
 is_bits Bytes = false
 is_bits Bits = true
 
+-- The rule follows from how it is stored.
 pub rule_of_is_bits : (rule : SumRule) → (if is_bits rule then Bits else Bytes) ≡ rule
 rule_of_is_bits Bytes = refl
 rule_of_is_bits Bits = refl
 
+-- The code of a rule, so that it can be part of the value of a model.
 abbrev coded_rule : Coded SumRule
 coded_rule =
     code_by Bool coded_bool is_bits (λ bits. if bits then Bits else Bytes) rule_of_is_bits
@@ -54,6 +56,7 @@ pub record Places : Type 0 where
   pub map : Option Asmap
   pub rule : SumRule
 
+-- The code of places, so that they can be part of the value of a model.
 abbrev pub coded_places : Coded Places
 coded_places =
     code_by (List ℕ × (Option Asmap × SumRule))
@@ -97,24 +100,30 @@ sum_by rule (Some m) = double_sha256 (sum_input rule m.file)
 abbrev pub sum_of : Places → List ℕ
 sum_of places = sum_by places.rule places.map
 
--- the group of an address by the node's asmap
+-- The group of an address by the node's asmap (`NetGroupManager::GetGroup` in netgroup.cpp of
+-- Bitcoin Core).
 abbrev pub group : Places → Address → List ℕ
 group places a = group_of a (asn places.map a)
 
--- the buckets of the new table for peers that sources of one group announce
+-- The bucket of the new table that has this index among the buckets for peers that sources of one
+-- group announce.
 abbrev pub source_bucket : Places → List ℕ → ℕ → ℕ
 source_bucket places source_group i =
     hash_of (places.key ∷ sized source_group ∷ to_le_bytes w64 i ∷ []) % NEW_BUCKETS
 
+-- The buckets of the new table for peers that sources of one group announce, at most 64 different
+-- ones (`ADDRMAN_NEW_BUCKETS_PER_SOURCE_GROUP`).
 abbrev pub source_buckets : Places → List ℕ → List ℕ
 source_buckets places source_group =
     map (source_bucket places source_group) (range_with_len 0 SOURCE_BUCKETS)
 
--- the buckets of the tried table for peers of one group
+-- The bucket of the tried table that has this index among the buckets for peers of one group.
 abbrev pub group_bucket : Places → List ℕ → ℕ → ℕ
 group_bucket places peer_group i =
     hash_of (places.key ∷ sized peer_group ∷ to_le_bytes w64 i ∷ []) % TRIED_BUCKETS
 
+-- The buckets of the tried table for peers of one group, at most 8 different ones
+-- (`ADDRMAN_TRIED_BUCKETS_PER_GROUP`).
 abbrev pub group_buckets : Places → List ℕ → List ℕ
 group_buckets places peer_group =
     map (group_bucket places peer_group) (range_with_len 0 GROUP_BUCKETS)
@@ -144,8 +153,10 @@ slot letter places peer bucket =
     hash_of (places.key ∷ (letter ∷ []) ∷ to_le_bytes w32 bucket ∷ sized (key_bytes peer) ∷ [])
     % SLOTS
 
+-- The slot of a peer in a bucket of the new table.
 unfoldable pub new_slot : Places → Peer → ℕ → ℕ
 new_slot places peer bucket = slot 0x4e places peer bucket
 
+-- The slot of a peer in a bucket of the tried table.
 unfoldable pub tried_slot : Places → Peer → ℕ → ℕ
 tried_slot places peer bucket = slot 0x4b places peer bucket

@@ -1,3 +1,5 @@
+//! `double_sha256`, `cheap` (its first eight bytes), and the lengths that are hashed before bytes.
+
 ghost use Rattle.std.specs.Prelude.{◌≡◌, ◌++◌, List, ℕ, ◌<◌, length};
 ghost use Rattle.placing.specs.Places.{double_sha256, cheap_hash, sized};
 

@@ -1,3 +1,5 @@
+//! The law that states the number of buckets of a group.
+
 ghost use Rattle.std.specs.Prelude.{◌≡◌};
 ghost use Rattle.placing.specs.declared.placer.TheConstants.{GROUP_BUCKETS, SOURCE_BUCKETS};
 

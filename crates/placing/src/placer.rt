@@ -1,3 +1,6 @@
+//! `Placer`, a key and an asmap: `new_bucket`, `tried_bucket`, `new_slot` and `tried_slot`, with
+//! `SOURCE_BUCKETS` and `GROUP_BUCKETS`.
+
 ghost use Rattle.std.specs.Prelude.{◌≡◌, ◌<◌, length, All};
 ghost use Rattle.asmap_vm.specs.Held.{tree_held};
 ghost use Rattle.net_group.specs.Group.{asmap_bits};

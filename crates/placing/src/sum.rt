@@ -1,3 +1,9 @@
+//! `SumRule` and `sum_by`: the checksum of an asmap, over its bytes or over its bits as Bitcoin
+//! Core computes it.
+//!
+//! The rule of Bitcoin Core 24 to 30 is from memory of `GetAsmapChecksum` and of how a vector of
+//! bits is serialized; the checksum that its functional test feature_asmap.py states comes out.
+
 ghost use Rattle.std.specs.Prelude.{◌≡◌, ℕ, ◌<◌, ◌^◌, List, ◌++◌, map};
 ghost use Rattle.std.specs.Int.{from_bool};
 ghost use Rattle.bit_code.specs.Coder.{has_bit, low_digits};

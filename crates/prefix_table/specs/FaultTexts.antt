@@ -7,6 +7,7 @@ use Rattle.prefix_table.specs.declared.fault.TableFault.TheVariants.{Form, Numbe
 abbrev pub at_line : List ℕ → ℕ → List ℕ
 at_line word n = word ++ codes " at line " ++ decimal n
 
+-- The text of a fault: its word, and the line that it is about.
 abbrev pub table_fault_text : TableFault → List ℕ
 table_fault_text (Form n) = at_line (codes "form") n
 table_fault_text (Number n) = at_line (codes "number") n

@@ -11,9 +11,11 @@ use Rattle.prefix_table.specs.declared.rows.Reading.{Reading}
 use Rattle.prefix_table.specs.declared.fault.TableFault.{TableFault}
 use Rattle.prefix_table.specs.declared.fault.TableFault.TheVariants.{TooMany}
 
+-- The row, without the number of its line.
 abbrev pub row_in : NumberedRow → Row
 row_in n = record { bits = n.bits; len = n.len; asn = n.asn }
 
+-- The row, with the number of its line.
 abbrev pub with_line : Row → ℕ → NumberedRow
 with_line row line = record { bits = row.bits; len = row.len; line = line; asn = row.asn }
 
@@ -73,6 +75,7 @@ IsReadingOf text rows None = IsWhole text rows
 IsReadingOf text rows (Some TooMany) = Overflows text rows
 IsReadingOf text rows (Some fault) = StopsAt text rows fault
 
+-- The rows and the fault of a reading are those of the text.
 abbrev pub IsReading : List ℕ → Reading → Type 0
 IsReading text reading = IsReadingOf text reading.rows.items reading.fault
 

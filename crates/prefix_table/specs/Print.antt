@@ -1,4 +1,4 @@
--- How a prefix table is printed.
+-- How a prefix table is printed. IPv6 is written by RFC 5952.
 use Rattle.std.specs.Prelude.{◌==◌, ℕ, ◌-◌, ◌/◌, ◌%◌, ◌^◌, Bool, List, [], ◌∷◌, ◌++◌, decimal, codes, flat_map, nat_le, ◌&&◌, if◌then◌else◌}
 use Rattle.std.specs.Int.{w32, w128, to_be_bytes}
 use Rattle.net_addr.specs.Text.{ipv4_text, ipv6_text}
@@ -11,10 +11,12 @@ use Rattle.prefix_table.specs.declared.line.Family.TheVariants.{Ipv4, Ipv6}
 abbrev pub is_mapped : Row → Bool
 is_mapped row = nat_le 96 row.len && (row.bits / 2 ^ 32 == 65535)
 
+-- A row of mapped addresses in the IPv4 form, with 96 bits less.
 abbrev pub ipv4_entry : Row → RowEntry
 ipv4_entry row =
     record { family = Ipv4; address = row.bits % 2 ^ 32; len = row.len - 96; asn = row.asn }
 
+-- A row in the IPv6 form.
 abbrev pub ipv6_entry : Row → RowEntry
 ipv6_entry row = record { family = Ipv6; address = row.bits; len = row.len; asn = row.asn }
 
@@ -22,10 +24,12 @@ ipv6_entry row = record { family = Ipv6; address = row.bits; len = row.len; asn 
 abbrev pub entry_of : Row → RowEntry
 entry_of row = if is_mapped row then ipv4_entry row else ipv6_entry row
 
+-- The address of a row as text, by its family.
 abbrev pub text_by : Family → ℕ → List ℕ
 text_by Ipv4 address = ipv4_text (to_be_bytes w32 address)
 text_by Ipv6 address = ipv6_text (to_be_bytes w128 address)
 
+-- The address of a row that is printed, as text.
 abbrev pub address_text : RowEntry → List ℕ
 address_text entry = text_by entry.family entry.address
 

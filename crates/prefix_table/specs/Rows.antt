@@ -1,4 +1,5 @@
 -- The rows of a prefix table, and the AS number of the most specific row that covers an address.
+-- The largest AS number is that of `ASN_BIT_SIZES` in util/asmap.cpp of Bitcoin Core.
 use Rattle.std.specs.Prelude.{◌≡◌, ◌==◌, ◌⊎◌, ℕ, ◌-◌, ◌/◌, ◌%◌, ◌^◌, ◌<◌, ◌≤◌, Bool, true, List, [], ◌∷◌, Option, Some, None, All, AllPairs, Contains, filter, length, nat_lt, if◌then◌else◌}
 use Rattle.std.specs.Option.{option_map_or}
 use Rattle.bit_code.specs.Coder.{digits}

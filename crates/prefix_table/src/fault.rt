@@ -1,3 +1,5 @@
+//! `TableFault`: why a text is not a table, with the number of the line.
+
 ghost use Rattle.std.specs.Prelude.{◌≡◌, IfOk};
 ghost use Rattle.prefix_table.specs.FaultTexts.{at_line, table_fault_text};
 ghost use Rattle.prefix_table.specs.declared.fault.TableFault.TheVariants as fault;

@@ -1,3 +1,5 @@
+//! Whether rows are in the order of a table: they rise by bits, then by length.
+
 ghost use Rattle.std.specs.Prelude.{◌≡◌, ◌↔◌, IsTrue, AllPairs};
 ghost use Rattle.prefix_table.specs.Rows.{IsRow, IsTable, Precedes};
 ghost use Rattle.prefix_table.specs.Inside.{precedes};

@@ -1,3 +1,5 @@
+//! The law that a text has one meaning.
+
 ghost use Rattle.std.specs.Prelude.{◌≡◌, ℕ, List};
 ghost use Rattle.prefix_table.specs.Text.{IsTableText, IsFault};
 ghost use Rattle.prefix_table.specs.declared.rows.Row.{Row};

@@ -21,7 +21,6 @@ mod fault;
 mod in_order;
 mod law;
 mod line;
-mod memory;
 mod numbered;
 mod print;
 mod read;

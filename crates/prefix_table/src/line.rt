@@ -1,3 +1,6 @@
+//! Reads one line `PREFIX/LEN AS..`: `Family`, `RowEntry`, the ranges of numbers, and the bits
+//! after the prefix.
+
 ghost use Rattle.std.specs.Prelude.{◌≡◌, ℕ, ◌+◌, ◌<◌, ◌≤◌, ◌^◌, ◌↔◌, [], IsTrue, IfSome, IfOk, IfErr, MatchOption, Some};
 ghost use Rattle.host_io.specs.Lines.{IsPassedOver};
 ghost use Rattle.prefix_table.specs.Text.{HasRowFault, IsRowAddress, IsRowEntry, IsInRange, IsClear, IsRowLine, row_of, width};

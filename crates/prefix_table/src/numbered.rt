@@ -1,3 +1,5 @@
+//! `NumberedRow`: a row with the number of its line, used to find prefixes that are repeated.
+
 use crate::Row;
 
 /// A row with the number of its line, counted from 1. The order is that of the rows of a table;

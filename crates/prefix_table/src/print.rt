@@ -1,3 +1,5 @@
+//! Prints rows as lines: `put_table`, `row_text` and `put_prefix`.
+
 ghost use Rattle.std.specs.Prelude.{◌≡◌, ◌≤◌, ◌++◌, ◌<◌, ◌^◌, length, take, flat_map, OnOk, OnErr, All};
 ghost use Rattle.arrayvec.specs.ArrayVec.{array_vec_len};
 ghost use Rattle.prefix_table.specs.Rows.{IsRow};

@@ -1,3 +1,5 @@
+//! `read_table` reads a whole text of at most `MAX_TEXT` (128 MiB) and finds its first fault.
+
 ghost use Rattle.std.specs.Prelude.{◌≡◌, ◌≤◌, ◌⊎◌, List, length, IfOk, IfErr, IfSome, IfNone, IsErrAnd, MatchResult};
 ghost use Rattle.prefix_table.specs.Text.{IsTableText, IsFault, HasNoTable};
 ghost use Rattle.prefix_table.specs.declared.rows.Row.{Row};

@@ -1,3 +1,5 @@
+//! `first_repeat` finds the first line whose prefix an earlier line has.
+
 ghost use Rattle.std.specs.Prelude.{◌≡◌, ℕ, ◌≤◌, IfSome, IfNone, MatchOption, min};
 ghost use Rattle.prefix_table.specs.Numbered.{IsRepeatAt};
 

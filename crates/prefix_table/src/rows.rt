@@ -1,3 +1,5 @@
+//! Reads lines one after another into rows: `Row`, `MAX_ROWS` and `MAX_ASN`.
+
 ghost use Rattle.std.specs.Prelude.{◌≡◌, ◌<◌, ◌≤◌, true, false, length, IfOk, IfSome, IfNone};
 ghost use Rattle.prefix_table.specs.Numbered.{IsReading, AreAllRows};
 ghost use Rattle.prefix_table.specs.Text.{HasNoTable};

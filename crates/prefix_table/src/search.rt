@@ -1,3 +1,5 @@
+//! `longest_match` by binary search, with `common_bits` and `cut`.
+
 ghost use Rattle.std.specs.Prelude.{◌≡◌, ℕ, ◌<◌, ◌≤◌, ◌^◌, ◌↔◌, ◌⊎◌, ◌-◌, IfSome, IfNone, Contains, AllPairs, true, false, length, slice_index_or};
 ghost use Rattle.std.specs.List.Sorted.{IsPartitionPoint};
 ghost use Rattle.prefix_table.specs.Rows.{IsTable, IsLongest, Precedes, row_covers, first_bits};

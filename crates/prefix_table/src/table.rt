@@ -1,3 +1,5 @@
+//! `Table`, distinct rows in order: `from_rows`, and `best` for an address.
+
 ghost use Rattle.std.specs.Prelude.{◌≡◌, IfOk, IfSome, IfNone, OnSome, Contains, true};
 ghost use Rattle.prefix_table.specs.Rows.{IsTable, IsLongest, best, row_covers};
 ghost use Rattle.prefix_table.specs.declared.rows.Row.{Row};

@@ -1,3 +1,6 @@
+//! `Draws`, an iterator over random words: those of a slice, or a number of words from a generator
+//! (`@S:N`, xoshiro256).
+
 ghost use Rattle.std.specs.Prelude.{◌≡◌, length};
 ghost use Rattle.std.specs.Iterator.{YieldsFirst};
 ghost use Rattle.random_words.specs.Seeded.{seeded_words};

@@ -12,7 +12,7 @@ use Rattle.peer_rec.specs.declared.file_rec.FileRec.{FileRec}
 use Rattle.raw_read.specs.declared.raw.Raw.{Raw}
 use Rattle.raw_read.specs.declared.raw.RawRow.{RawRow}
 use Rattle.raw_read.specs.declared.raw.RawTable.TheVariants.{New, Tried}
-use Rattle.raw_file.specs.Listing.{again_at, first_again, first_fault, first_twice, new_recs, or_else, peers_of, recs_of, with_rec}
+use Rattle.raw_file.specs.Listing.{again_at, first_again, first_fault, first_twice, new_recs, or_else, peers_of, recs_of, tried_of, with_rec}
 use Rattle.table_machine.specs.Restoring.{duplicate_from, is_repeated}
 use Rattle.table_machine.proofs.Lists.{Contains-cases}
 
@@ -88,13 +88,13 @@ has-first done (x ∷ rs) r c = elim (Contains-cases x rs r c) [
 
 -- THE TRIED TABLE
 
-apart-rows : (peers : List Peer) (rows : List RawRow) → first_twice peers rows ≡ None → AreApart peers (recs_of rows)
+apart-rows : (peers : List Peer) (rows : List RawRow) → first_twice peers rows ≡ None → AreApart peers (tried_of rows)
 unfolding AreApart
 apart-rows peers [] none = tt
 apart-rows peers (row ∷ rows) none = by (list_any (same_peer row.rec.peer) peers) refl (apart-rows (peers ++ row.rec.peer ∷ []) rows) none
   where
-    by : (b : Bool) → list_any (same_peer row.rec.peer) peers ≡ b → (first_twice (peers ++ row.rec.peer ∷ []) rows ≡ None → AreApart (peers ++ row.rec.peer ∷ []) (recs_of rows)) → (if b then Some row else first_twice (peers ++ row.rec.peer ∷ []) rows) ≡ None
-        → (list_any (same_peer row.rec.peer) peers ≡ false) × AreApart (peers ++ row.rec.peer ∷ []) (recs_of rows)
+    by : (b : Bool) → list_any (same_peer row.rec.peer) peers ≡ b → (first_twice (peers ++ row.rec.peer ∷ []) rows ≡ None → AreApart (peers ++ row.rec.peer ∷ []) (tried_of rows)) → (if b then Some row else first_twice (peers ++ row.rec.peer ∷ []) rows) ≡ None
+        → (list_any (same_peer row.rec.peer) peers ≡ false) × AreApart (peers ++ row.rec.peer ∷ []) (tried_of rows)
     by true is more some = absurd (cc)
     by false is more rest = (is, more rest)
 
@@ -132,7 +132,7 @@ none_from earlier (r ∷ rs) index apart =
     by false is more = more
 
 -- no valid record has the peer of an earlier one
-pub no_duplicate : (raw : Raw) → first_fault raw ≡ None → duplicate_from [] 0 (new_recs raw ++ recs_of raw.tried) ≡ None
+pub no_duplicate : (raw : Raw) → first_fault raw ≡ None → duplicate_from [] 0 (new_recs raw ++ tried_of raw.tried) ≡ None
 no_duplicate raw none =
-    none_from [] (new_recs raw ++ recs_of raw.tried) 0
-    (apart-append [] (new_recs raw) (recs_of raw.tried) (apart-firsts [] (recs_of raw.new) (apart-nil [])) (apart-rows (peers_of (new_recs raw)) raw.tried (none_twice raw none)))
+    none_from [] (new_recs raw ++ tried_of raw.tried) 0
+    (apart-append [] (new_recs raw) (tried_of raw.tried) (apart-firsts [] (recs_of raw.new) (apart-nil [])) (apart-rows (peers_of (new_recs raw)) raw.tried (none_twice raw none)))

@@ -19,7 +19,7 @@ use Rattle.raw_read.specs.declared.raw.RawRow.{RawRow}
 use Rattle.raw_read.specs.declared.raw.RawTable.{RawTable}
 use Rattle.raw_read.specs.declared.raw.RawTable.TheVariants.{New, Tried}
 use Rattle.raw_file.specs.Inside.{AreRowsOf}
-use Rattle.raw_file.specs.Listing.{differs, firsts, index_of, known_rec, new_recs, pair_of, peers_of, recs_of, says_same, with_rec}
+use Rattle.raw_file.specs.Listing.{differs, firsts, index_of, known_rec, new_recs, pair_of, peers_of, recs_of, says_same, with_rec, reached, tried_of}
 use Rattle.raw_file.proofs.Agains.{absent, present}
 use Rattle.slot_grid.specs.declared.sizes.TheConstants.{NEW_BUCKETS, SLOTS}
 
@@ -134,9 +134,9 @@ index_below recs peer some = by (position (same_peer peer) (peers_of recs)) refl
 -- what `Snapshot::make` needs
 pub record Fits (raw : Raw) : Type 0 where
   pub few_new : length (new_recs raw) ≤ MAX_NEW
-  pub few_tried : length (recs_of raw.tried) ≤ MAX_TRIED
+  pub few_tried : length (tried_of raw.tried) ≤ MAX_TRIED
   pub new_attempts : All (λ r. r.attempts ≤ MAX_ATTEMPTS) (new_recs raw)
-  pub tried_attempts : All (λ r. r.attempts ≤ MAX_ATTEMPTS) (recs_of raw.tried)
+  pub tried_attempts : All (λ r. r.attempts ≤ MAX_ATTEMPTS) (tried_of raw.tried)
   pub buckets_below : All (λ pair. pair.0 < NEW_BUCKETS) (map (pair_of (new_recs raw)) raw.new)
   pub indexes : All (λ pair. pair.1 < length (new_recs raw)) (map (pair_of (new_recs raw)) raw.new)
   pub rise : AllPairs (λ pair later. pair.0 ≤ later.0) (map (pair_of (new_recs raw)) raw.new)
@@ -172,10 +172,10 @@ few_pairs f rows most few = subst (λ n. n ≤ most) (sym (length-map rows f)) f
 pub fits : (raw : Raw) → AreRowsOf raw → Fits raw
 fits raw are = record {
   few_new = few_firsts (recs_of raw.new) 65536 (few_recs raw.new 65536 (few_new_rows are.new raw.new are.new_rows));
-  few_tried = few_recs raw.tried 16384 (few_tried_rows are.tried raw.tried are.tried_rows);
+  few_tried = subst (λ n. n ≤ 16384) (sym (length-map raw.tried (λ (row : RawRow). reached row.rec))) (few_tried_rows are.tried raw.tried are.tried_rows);
   new_attempts = each_from (λ (r : FileRec). r.attempts ≤ MAX_ATTEMPTS) [] (recs_of raw.new) (All-nil (λ (r : FileRec). r.attempts ≤ MAX_ATTEMPTS))
       (All-map (λ (r : FileRec). r.attempts ≤ MAX_ATTEMPTS) (λ (row : RawRow). row.rec) raw.new (attempts New 0 are.new raw.new are.new_rows));
-  tried_attempts = All-map (λ (r : FileRec). r.attempts ≤ MAX_ATTEMPTS) (λ (row : RawRow). row.rec) raw.tried (attempts Tried 0 are.tried raw.tried are.tried_rows);
+  tried_attempts = All-map (λ (r : FileRec). r.attempts ≤ MAX_ATTEMPTS) (λ (row : RawRow). reached row.rec) raw.tried (attempts Tried 0 are.tried raw.tried are.tried_rows);
   buckets_below = All-map (λ (pair : ℕ × ℕ). pair.0 < NEW_BUCKETS) (pair_of (new_recs raw)) raw.new (buckets New 0 are.new raw.new are.new_rows);
   indexes = All-map (λ (pair : ℕ × ℕ). pair.1 < length (new_recs raw)) (pair_of (new_recs raw)) raw.new (indexes_below raw.new);
   rise = rising (pair_of (new_recs raw)) (λ row. refl) New 0 are.new raw.new are.new_rows;

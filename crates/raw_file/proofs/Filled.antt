@@ -19,7 +19,7 @@ use Rattle.placing.specs.Places.{Places, new_bucket, new_slot, sum_of}
 use Rattle.raw_read.specs.Raw.{IsRaw}
 use Rattle.raw_read.specs.declared.raw.Raw.{Raw}
 use Rattle.raw_read.specs.declared.raw.RawRow.{RawRow}
-use Rattle.raw_file.specs.Listing.{first_fault, index_of, new_recs, pair_of, peers_of, recs_of}
+use Rattle.raw_file.specs.Listing.{first_fault, index_of, new_recs, pair_of, peers_of, recs_of, tried_of}
 use Rattle.raw_file.specs.Opening.{ListsIn, OpensListing, listing_file}
 use Rattle.raw_file.proofs.Distinct.{HasPeer, has-first, no_duplicate}
 use Rattle.raw_file.proofs.Facts.{fits, position_found, position_of}
@@ -210,7 +210,7 @@ module _ (raw : Raw) (places : Places) (keeps : KeepsAtOpening (listing_file raw
       let same = uses_buckets (listing_file raw places) places in
       drop_all-from pairs same (place_all same (with_records (listing_file raw places) places) pairs) (range_with_len 0 (length (new_recs raw)))
       (all-from pairs same (with_records (listing_file raw places) places) pairs (λ p c. c)
-      (tried-from pairs same (with_all_new (empty_state places) (new_recs raw)) (recs_of raw.tried)
+      (tried-from pairs same (with_all_new (empty_state places) (new_recs raw)) (tried_of raw.tried)
       (new-from pairs same (empty_state places) (new_recs raw) (λ q c. absurd (none_in_nil q c)))))
 
   places-left : left.places ≡ places

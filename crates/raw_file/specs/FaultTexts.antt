@@ -9,10 +9,12 @@ use Rattle.raw_read.specs.declared.raw.RawTable.TheVariants.{New, Tried}
 use Rattle.raw_file.specs.declared.fault.ListingFault.{ListingFault}
 use Rattle.raw_file.specs.declared.fault.ListingFault.TheVariants.{Text, Again, Memory}
 
+-- The word for a table.
 abbrev pub table_word : RawTable → List ℕ
 table_word New = codes "new"
 table_word Tried = codes "tried"
 
+-- The word for a member of a record.
 abbrev pub field_word : Field → List ℕ
 field_word Address = codes "address"
 field_word Port = codes "port"
@@ -30,6 +32,7 @@ slot_text table bucket position word =
     table_word table ++ codes "/" ++ decimal bucket ++ codes "/" ++ decimal position
     ++ codes ": " ++ word
 
+-- The text of a fault of a listing as such.
 abbrev pub raw_fault_text : RawFault → List ℕ
 raw_fault_text raw.Json = codes "json"
 raw_fault_text raw.Form = codes "form"
@@ -39,6 +42,7 @@ raw_fault_text (raw.Row table bucket position field) =
 raw_fault_text raw.TooLarge = codes "too-large"
 raw_fault_text raw.Memory = codes "out of memory"
 
+-- The text of a fault of a listing that is made into a file.
 abbrev pub listing_fault_text : ListingFault → List ℕ
 listing_fault_text (Text fault) = raw_fault_text fault
 listing_fault_text (Again table bucket position) =

@@ -1,5 +1,5 @@
 -- What a listing says, as a file of peers has it.
-use Rattle.std.specs.Prelude.{ℕ, List, [], ◌∷◌, ◌++◌, Bool, not, ◌&&◌, ◌||◌, ◌==◌, false, map, fold, position, find, unwrap_or, Option, Some, None, if◌then◌else◌}
+use Rattle.std.specs.Prelude.{ℕ, max, List, [], ◌∷◌, ◌++◌, Bool, not, ◌&&◌, ◌||◌, ◌==◌, false, map, fold, position, find, unwrap_or, Option, Some, None, if◌then◌else◌}
 use Rattle.std.specs.List.{list_any}
 use Rattle.net_addr.specs.Same.{same_address, same_peer}
 use Rattle.net_addr.specs.declared.peer.Peer.{Peer}
@@ -16,9 +16,21 @@ use Rattle.slot_grid.specs.declared.sizes.TheConstants.{NEW_BUCKETS}
 
 -- THE SNAPSHOT
 
+-- The records of some rows.
 abbrev pub recs_of : List RawRow → List FileRec
 recs_of rows = map (λ row. row.rec) rows
 
+-- A tried record with a success, which a listing does not have: at the time of the record, or at 1,
+-- since a node does not start over a file with a tried record whose last success is at 0
+-- (`AddrManImpl::CheckAddrman`).
+abbrev pub reached : FileRec → FileRec
+reached r = record r { last_success = max r.time 1 }
+
+-- The records of rows of the tried table
+abbrev pub tried_of : List RawRow → List FileRec
+tried_of rows = map (λ row. reached row.rec) rows
+
+-- The peers of some records.
 abbrev pub peers_of : List FileRec → List Peer
 peers_of recs = map (λ r. r.peer) recs
 
@@ -38,21 +50,24 @@ index_of recs peer = unwrap_or (position (same_peer peer) (peers_of recs)) 0
 abbrev pub pair_of : List FileRec → RawRow → ℕ × ℕ
 pair_of recs row = (row.bucket, index_of recs row.rec.peer)
 
+-- The records of the new table, each peer once.
 abbrev pub new_recs : Raw → List FileRec
 new_recs raw = firsts (recs_of raw.new)
 
--- The file's records are those of the rows, each peer of the new table once. Each bucket lists the
--- records of its rows, in their order.
+-- The file's records are those of the rows: each peer of the new table once, and those of the tried
+-- table with a success. Each bucket lists the records of its rows, in their order.
 abbrev pub snapshot_of : List ℕ → List ℕ → Raw → Snapshot
 snapshot_of key sum raw =
-    snapshot key (new_recs raw) (recs_of raw.tried) NEW_BUCKETS
+    snapshot key (new_recs raw) (tried_of raw.tried) NEW_BUCKETS
     (map (pair_of (new_recs raw)) raw.new) sum
 
 -- A PEER THAT IS THERE AGAIN
 
+-- The bucket and the peer of a row.
 abbrev pub spot_of : RawRow → Spot
 spot_of row = record { bucket = row.bucket; peer = row.rec.peer }
 
+-- Two rows are of one bucket and one peer.
 abbrev pub same_spot : Spot → Spot → Bool
 same_spot a b = a.bucket == b.bucket && same_peer a.peer b.peer
 
@@ -60,6 +75,7 @@ same_spot a b = a.bucket == b.bucket && same_peer a.peer b.peer
 abbrev pub says_same : FileRec → FileRec → Bool
 says_same a b = same_address a.source b.source && a.time == b.time && a.services == b.services
 
+-- A record says something else of its peer than the known one.
 abbrev pub differs : FileRec → Option FileRec → Bool
 differs r None = false
 differs r (Some known) = not (says_same known r)
@@ -87,10 +103,12 @@ first_twice peers (row ∷ rows) =
     if list_any (same_peer row.rec.peer) peers then Some row
     else first_twice (peers ++ row.rec.peer ∷ []) rows
 
+-- The fault of a row whose peer is repeated, if there is such a row.
 abbrev pub again_at : RawTable → Option RawRow → Option ListingFault
 again_at table None = None
 again_at table (Some row) = Some (Again table row.bucket row.position)
 
+-- The first value, or another if there is none.
 abbrev pub or_else : {A : Type 0} → Option A → Option A → Option A
 or_else None other = other
 or_else (Some a) other = Some a

@@ -1,3 +1,5 @@
+//! `ListingFault` and its printed text.
+
 ghost use Rattle.std.specs.Prelude.{◌≡◌, IfOk};
 ghost use Rattle.raw_file.specs.FaultTexts.{field_word, listing_fault_text, member_text, raw_fault_text, slot_text, table_word};
 ghost use Rattle.raw_file.specs.declared.fault.ListingFault.TheVariants as fault;

@@ -1,3 +1,5 @@
+//! `read_input` reads a whole input up to a limit; `InputFault` says why it could not.
+
 ghost use Rattle.std.specs.Prelude.{◌≡◌, ◌+◌, ◌<◌, ◌≤◌, ◌↔◌, ◌++◌, [], length, drop, take, IfOk, IfSome, IsErrOf, Some, vec_len};
 ghost use Rattle.host_io.specs.Faults.{Rose};
 ghost use Rattle.host_io.specs.Reading.{TakesAtMost};

@@ -1,3 +1,5 @@
+//! The law that the file of a listing opens, under whatever key and asmap.
+
 ghost use Rattle.std.specs.Prelude.{◌≡◌, ℕ, List, None};
 ghost use Rattle.placing.specs.Places.{Places};
 ghost use Rattle.raw_file.specs.Listing.{first_fault};

@@ -1,3 +1,5 @@
+//! `read_listing`: from the text to a `Snapshot`.
+
 ghost use Rattle.std.specs.Prelude.{◌≡◌, ◌≢◌, ◌≤◌, ◌*◌, length, IfOk, IfErr, OnOk, None, Some};
 ghost use Rattle.raw_file.specs.Faults.{HasListingFault, IsListing};
 ghost use Rattle.raw_file.specs.Inside.{AreRowsOf};
@@ -6,7 +8,7 @@ ghost use Rattle.raw_file.specs.declared.fault.ListingFault.TheVariants as fault
 ghost use Rattle.slot_grid.specs.declared.sizes.TheConstants.{NEW_BUCKETS, SLOTS};
 
 use crate::ListingFault;
-use crate::peers::{check_tried, pairs_of, read_new, recs_of};
+use crate::peers::{check_tried, pairs_of, read_new, tried_of};
 use indexmap::IndexSet;
 use peer_rec::{FileRecs, Pairs, Snapshot};
 use raw_read::{Raw, RawFault, read_raw};
@@ -39,7 +41,7 @@ fn snapshot_of(
         Ok(()) => {}
         Err(fault) => return Err(fault),
     }
-    let tried = recs_of(alloc, tried_rows)?;
+    let tried = tried_of(alloc, tried_rows)?;
     let new_recs = FileRecs::of(recs);
     let tried_recs = FileRecs::of(tried);
     let listed = Pairs::of(pairs);

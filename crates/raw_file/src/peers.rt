@@ -1,8 +1,11 @@
+//! Each peer once: the records of both tables and the peers that are repeated; `Spot` is a bucket
+//! with a peer.
+
 ghost use Rattle.std.specs.Prelude.{◌≡◌, ◌≢◌, ◌≤◌, ◌++◌, length, ◌∷◌, ◌||◌, List, [], false, true, not, IfOk, IfErr, OnOk, map, None, Some};
 ghost use Rattle.std.specs.List.{list_any};
 ghost use Rattle.net_addr.specs.Same.{same_peer};
 ghost use Rattle.peer_rec.specs.declared.file_rec.FileRec.{FileRec};
-ghost use Rattle.raw_file.specs.Listing.{again_at, differs, first_again, first_twice, firsts, known_rec, pair_of, peers_of, recs_of, says_same, same_spot, spot_of, with_rec};
+ghost use Rattle.raw_file.specs.Listing.{again_at, differs, first_again, first_twice, firsts, known_rec, pair_of, peers_of, reached, recs_of, says_same, same_spot, spot_of, tried_of, with_rec};
 ghost use Rattle.raw_file.specs.declared.fault.ListingFault.TheVariants as faults;
 ghost use Rattle.raw_read.specs.declared.raw.RawTable.TheVariants.{New, Tried};
 
@@ -134,13 +137,23 @@ fn add_peer(peers: &mut IndexSet<Peer>, peer: Peer) -> Result<bool, Memory>
     Ok(!is_new)
 }
 
-/// Returns the records of rows.
-pub(crate) fn recs_of(alloc: Global, rows: &[RawRow]) -> Result<Vec<FileRec>, Memory>
-    ensures { IfOk result (λ recs. recs.items ≡ recs_of rows.now) }
+/// Returns a tried record with a success: at its time, or at 1 if that is 0.
+fn reached(rec: &FileRec) -> FileRec
+    ensures { result ≡ reached rec.now }
+{
+    FileRec {
+        last_success: rec.time.max(1),
+        ..*rec
+    }
+}
+
+/// Returns the records of rows of the tried table.
+pub(crate) fn tried_of(alloc: Global, rows: &[RawRow]) -> Result<Vec<FileRec>, Memory>
+    ensures { IfOk result (λ recs. recs.items ≡ tried_of rows.now) }
 {
     let mut recs = Vec::with_capacity(alloc, rows.len())?;
     for row in rows {
-        recs.push(row.rec)?;
+        recs.push(reached(&row.rec))?;
     }
     Ok(recs)
 }

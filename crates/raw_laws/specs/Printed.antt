@@ -35,6 +35,7 @@ row_of bucket position None = []
 row_of bucket position (Some r) =
     record { bucket = bucket; position = position; rec = printed_rec r } ∷ []
 
+-- The rows of a bucket, by position.
 abbrev pub bucket_rows : Table → State → ℕ → List RawRow
 bucket_rows table st bucket =
     flat_map (λ position. row_of bucket position (rec_at table st bucket position))
@@ -45,6 +46,7 @@ abbrev pub table_of : Table → RawTable
 table_of New = read.New
 table_of Tried = read.Tried
 
+-- The rows of a table, by bucket.
 abbrev pub table_rows : Table → State → List RawRow
 table_rows table st =
     flat_map (bucket_rows table st) (range_with_len 0 (buckets_of (table_of table)))
@@ -53,6 +55,7 @@ table_rows table st =
 abbrev pub raw_of : State → Raw
 raw_of st = record { new = table_rows New st; tried = table_rows Tried st }
 
+-- Bytes of CJDNS begin with fc, as the text of such an address does.
 abbrev pub named_by : Net → List ℕ → Type 0
 named_by Cjdns bytes = slice_index bytes 0 ≡ 0xfc
 named_by other bytes = ⊤

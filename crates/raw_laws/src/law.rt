@@ -1,3 +1,5 @@
+//! The law that the output of `raw` is read back as the slots and records of the tables.
+
 ghost use Rattle.std.specs.Prelude.{ℕ, List};
 ghost use Rattle.placing.specs.Places.{Places};
 ghost use Rattle.table_groups.specs.View as tables;
@@ -10,6 +12,10 @@ ghost use Rattle.raw_laws.specs.Shown.{HaveSameSlots};
 
 /// What `raw` printed of tables is a text of their slots and records, and by `read_raw` of no
 /// others.
+///
+/// `read_raw` returns these slots and records or runs out of memory. The last success of a record
+/// and the tries since are not in the text. An address of CJDNS outside of fc00::/8 is printed as
+/// one of IPv6, so the law speaks of tables without such addresses.
 pub fn raw_is_read_back()
     ensures { (st : State) (text : List ℕ) → IsPrinted st text → IsRaw text (raw_of st) }
 {}

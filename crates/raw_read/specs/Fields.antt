@@ -46,12 +46,15 @@ pub record IsAddressAt (name network : List ℕ) (j : Json) (a : Address) : Type
   pub found : text_at name j ≡ Some text
   pub named : IsRawName (is_local (text_at network j)) text a
 
+-- The address of the record's peer.
 abbrev pub IsPeerAddress : Json → Address → Type 0
 IsPeerAddress = IsAddressAt (codes "address") (codes "network")
 
+-- The port of the record's peer, a number below 65,536.
 abbrev pub IsPort : Json → ℕ → Type 0
 IsPort = IsNumberAt (codes "port") 65535
 
+-- The services of the record, a number of 64 bits.
 abbrev pub AreServices : Json → ℕ → Type 0
 AreServices = IsNumberAt (codes "services") 18446744073709551615
 

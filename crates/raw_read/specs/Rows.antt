@@ -13,10 +13,12 @@ use Rattle.raw_read.specs.declared.raw.RawTable.TheVariants.{New, Tried}
 abbrev pub Member : Type 0
 Member = List ℕ × Json
 
+-- The members of an object as a list.
 abbrev pub list_of : Members → List Member
 list_of no_members = []
 list_of (member name j ms) = (name, j) ∷ list_of ms
 
+-- The number of buckets of a table.
 abbrev pub buckets_of : RawTable → ℕ
 buckets_of New = NEW_BUCKETS
 buckets_of Tried = TRIED_BUCKETS

@@ -1,3 +1,6 @@
+//! `Raw`, `RawRow` and `RawTable`, what a listing says; `RawFault` and `Field`, why a text is not a
+//! listing.
+
 use host_io::ListOf;
 use peer_rec::FileRec;
 use std::alloc::AllocFailed;

@@ -1,3 +1,5 @@
+//! `read_raw` reads the JSON and its two tables, in a text of at most `MAX_TEXT` (64 MiB).
+
 ghost use Rattle.std.specs.Prelude.{◌≡◌, ◌≢◌, ◌⊎◌, Ok, Err, Some, IfOk, IfErr, option_map, option_and_then};
 ghost use Rattle.json.specs.Find.{get, as_object};
 ghost use Rattle.json.specs.Json.{Json};

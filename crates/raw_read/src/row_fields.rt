@@ -1,3 +1,5 @@
+//! The members of one record: address, port, network, time, services and source.
+
 ghost use Rattle.std.specs.Prelude.{◌≡◌, ℕ, IfSome, IfNone, IfOk, IfErr, Some, option_map};
 ghost use Rattle.json.specs.Value.{value_view};
 ghost use Rattle.net_addr.specs.Address.{Address};

@@ -1,3 +1,5 @@
+//! The members of a table, and slots by name (`bucket/position`).
+
 ghost use Rattle.std.specs.Prelude.{◌≡◌, ◌≤◌, ◌<◌, ◌+◌, ◌*◌, ℕ, IfSome, Some, ◌≢◌, map, IfOk, IfErr};
 ghost use Rattle.slot_grid.specs.declared.sizes.TheConstants.{SLOTS};
 ghost use Rattle.raw_read.specs.Rows.{IsSlot, slot_number, AreRows, HasRowFault, HasTableFault, IsRow};

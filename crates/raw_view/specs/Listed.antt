@@ -1,4 +1,6 @@
--- The tables of a listing, as it says them: no key is needed, and nothing is placed anew.
+-- The tables of a listing, as it says them: no key is needed, and nothing is placed anew. A peer of
+-- the new table is one record, that of its first row, whatever later rows say of it. One that is in
+-- both tables, since it moved while they were read, is two. What a listing does not say is 0.
 use Rattle.std.specs.Prelude.{◌==◌, ℕ, ◌*◌, List, [], ◌∷◌, ◌++◌, map, fold, replicate, get_or, slice_set, Option, Some, None, if◌then◌else◌}
 use Rattle.std.specs.List.{list_any}
 use Rattle.net_addr.specs.Same.{same_peer}
@@ -37,6 +39,7 @@ rec_of table row = record {
 
 -- THE RECORDS
 
+-- The peers of some records.
 abbrev pub peers_of : List Rec → List Peer
 peers_of recs = map (λ r. r.peer) recs
 
@@ -46,10 +49,11 @@ with_row recs row =
     if list_any (same_peer row.rec.peer) (peers_of recs) then recs
     else recs ++ rec_of New row ∷ []
 
--- those of the new table: the first of each peer
+-- The records of the new table: the first of each peer.
 abbrev pub new_recs : List RawRow → List Rec
 new_recs rows = fold with_row [] rows
 
+-- The records of the tried table, one for each row.
 abbrev pub tried_recs : List RawRow → List Rec
 tried_recs rows = map (rec_of Tried) rows
 
@@ -60,10 +64,11 @@ abbrev pub with_slot : RawTable → List (Option Rec) → RawRow → List (Optio
 with_slot table slots row =
     slice_set slots (slot_number row.bucket row.position) (Some (rec_of table row))
 
--- those of a table, by bucket and then by position
+-- The slots of a table, by bucket and then by position.
 abbrev pub slots_of : RawTable → List RawRow → List (Option Rec)
 slots_of table rows = fold (with_slot table) (replicate (buckets_of table * SLOTS) None) rows
 
+-- The record in a slot; none if it is free.
 abbrev pub slot_in : List (Option Rec) → ℕ → ℕ → Option Rec
 slot_in slots bucket position = get_or slots (slot_number bucket position) None
 
@@ -82,6 +87,7 @@ pub record RawTables : Type 0 where
   pub new_slots : List (Option Rec)
   pub tried_slots : List (Option Rec)
 
+-- The tables that a listing says.
 abbrev pub tables_of : Raw → RawTables
 tables_of raw = record {
   new_recs = new_recs raw.new;

@@ -1,3 +1,5 @@
+//! `RawTables`, the records and slots of a listing: `occupant` and `sizes`.
+
 ghost use Rattle.std.specs.Prelude.{◌≡◌, ◌≤◌, ◌++◌, ◌&&◌, not, count_by, if◌then◌else◌, IfOk, option_map};
 ghost use Rattle.peer_rec.specs.Rec.{is_tried};
 ghost use Rattle.peer_rec.specs.declared.snapshot.TheConstants.{MAX_NEW, MAX_TRIED};

@@ -1,3 +1,5 @@
+//! The records of each table; a peer of the new table is there once.
+
 ghost use Rattle.std.specs.Prelude.{◌≡◌, ◌≤◌, ◌++◌, length, count_by, IfOk, OnOk};
 ghost use Rattle.raw_view.specs.Listed.{new_recs, peers_of, tried_recs, with_row};
 ghost use Rattle.slot_grid.specs.declared.sizes.TheConstants.{ALL_SLOTS};

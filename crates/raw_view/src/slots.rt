@@ -1,3 +1,5 @@
+//! An array of slots from the rows, with the place of each record.
+
 ghost use Rattle.std.specs.Prelude.{◌≡◌, ◌<◌, ◌*◌, replicate, IfOk, None, option_map};
 ghost use Rattle.raw_read.specs.Rows.{buckets_of, slot_number};
 ghost use Rattle.raw_view.specs.Inside.{AreIn};

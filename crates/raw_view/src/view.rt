@@ -1,3 +1,5 @@
+//! `RawView` and `read_view`: the listing with a placer, as a `TableView`.
+
 ghost use Rattle.std.specs.Prelude.{◌≡◌, ◌≢◌, IfOk, IfErr, IfSome, ◌<◌, ℕ, Bool, List, option_map};
 ghost use Rattle.net_addr.specs.Address.{IsAddress};
 ghost use Rattle.placing.specs.Places.{Places};

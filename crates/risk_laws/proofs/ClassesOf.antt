@@ -8,11 +8,11 @@ use Rattle.std.proofs.lemmas.List.Elements.{All-contains, All-cons, All-nil}
 use Rattle.std.proofs.lemmas.List.Sums.{AllPass-from_list_all}
 use Rattle.net_addr.specs.NetBits.{each_below}
 use Rattle.placing.specs.Places.{new_slot, tried_bucket, tried_slot}
-use Rattle.peer_rec.specs.Rec.{IsPlace, IsRec, buckets_by, chance, is_tried, tried_by}
+use Rattle.peer_rec.specs.Rec.{IsPlace, IsRec, buckets_by, chance, is_tried, next_factor, tried_by}
 use Rattle.peer_rec.specs.declared.place.Place.{Place}
 use Rattle.peer_rec.specs.declared.place.Place.TheVariants.{New, Tried}
 use Rattle.peer_rec.specs.declared.rec.Rec.{Rec}
-use Rattle.table_machine.specs.Picks.{bucket_count, first_candidate, is_accepted, is_wanted, next_factor, occupant_at, slots_from, wanted_new, wanted_tried}
+use Rattle.table_machine.specs.Picks.{bucket_count, first_candidate, is_accepted, is_wanted, occupant_at, slots_from, wanted_new, wanted_tried}
 use Rattle.table_machine.specs.Sound.{IsSound}
 use Rattle.table_machine.specs.State.{State, is_tried_at}
 use Rattle.table_machine.proofs.Lists.{All-from_Contains, find-Some}

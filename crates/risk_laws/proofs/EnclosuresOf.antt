@@ -3,7 +3,8 @@ use Rattle.std.proofs.Common.{◌≡◌, ℕ, zero, suc, ◌+◌, ◌-◌, ◌*�
 use Rattle.std.proofs.Math.Nat.{lt-div-mul-add, mul-le-mul_left, mul-le-mul_right}
 use Rattle.std.proofs.lemmas.List.Sums.{sum_by-cons}
 use Rattle.peer_rec.specs.declared.rec.Rec.{Rec}
-use Rattle.table_machine.specs.Picks.{bucket_count, next_factor}
+use Rattle.peer_rec.specs.Rec.{next_factor}
+use Rattle.table_machine.specs.Picks.{bucket_count}
 use Rattle.table_machine.specs.Sound.{IsSound}
 use Rattle.table_machine.specs.State.{State}
 use Rattle.table_laws.specs.Chances.{picking_words, words_for}

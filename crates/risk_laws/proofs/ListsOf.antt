@@ -9,7 +9,8 @@ use Rattle.std.proofs.lemmas.List.Sums.{sum_by-cons}
 use Rattle.net_addr.specs.declared.peer.Peer.{Peer}
 use Rattle.peer_rec.specs.declared.answers.Picked.TheVariants.{One, Nothing}
 use Rattle.peer_rec.specs.declared.rec.Rec.{Rec}
-use Rattle.table_machine.specs.Picks.{bucket_count, candidate, candidates, candidates_of_either, first_accepted, first_factor, is_accepted, next_factor, select, wanted_new, wanted_tried, with_candidate}
+use Rattle.peer_rec.specs.Rec.{next_factor}
+use Rattle.table_machine.specs.Picks.{bucket_count, candidate, candidates, candidates_of_either, first_accepted, first_factor, is_accepted, select, wanted_new, wanted_tried, with_candidate}
 use Rattle.table_machine.specs.Sound.{IsSound}
 use Rattle.table_machine.specs.State.{State}
 use Rattle.table_machine.proofs.Lists.{All-from_Contains}

@@ -1,4 +1,5 @@
--- How many starts of a table lead to records of each chance.
+-- How many starts of a table lead to records of each chance. The chances are those of
+-- `AddrInfo::GetChance` in addrman.cpp of Bitcoin Core.
 use Rattle.std.specs.Prelude.{ℕ, ◌*◌, ◌/◌, ◌^◌, List, ◌++◌, Bool, true, ◌&&◌, ◌==◌, filter, map, sum_by}
 use Rattle.std.specs.List.{range_with_len}
 use Rattle.net_addr.specs.declared.peer.Peer.{Peer}
@@ -27,7 +28,8 @@ starts_for st in_new nets now test likely =
     sum_by (leading_starts st in_new nets)
     (filter (λ r. test r && is_wanted nets r && chance r now == likely) st.records)
 
--- the wanted records of a chance, and those of them that pass a test
+-- The eligible records of a chance: how many starts lead to any of them, and to those that pass a
+-- test.
 abbrev pub kind_of : State → Bool → List ℕ → ℕ → (Rec → Bool) → ℕ → Kind
 kind_of st in_new nets now test likely = record {
   chance = likely;
@@ -35,6 +37,7 @@ kind_of st in_new nets now test likely = record {
   theirs = starts_for st in_new nets now test likely;
 }
 
+-- The eligible records by their chances, the likeliest first.
 abbrev pub kinds_of : State → Bool → List ℕ → ℕ → (Rec → Bool) → List Kind
 kinds_of st in_new nets now test = map (kind_of st in_new nets now test) chances
 

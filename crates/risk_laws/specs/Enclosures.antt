@@ -1,7 +1,7 @@
 -- Which part of the searches ends at records that pass a test, at most, computed from the rounds.
 use Rattle.std.specs.Prelude.{ℕ, zero, suc, ◌+◌, ◌*◌, List, Bool}
 use Rattle.peer_rec.specs.declared.rec.Rec.{Rec}
-use Rattle.table_machine.specs.Picks.{next_factor}
+use Rattle.peer_rec.specs.Rec.{next_factor}
 use Rattle.table_machine.specs.State.{State}
 use Rattle.table_laws.specs.Chances.{words_for}
 use Rattle.table_laws.specs.Searches.{refusing_rounds}

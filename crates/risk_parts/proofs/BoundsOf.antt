@@ -9,7 +9,7 @@ use Rattle.net_addr.specs.NetSet.{all, has}
 use Rattle.net_addr.specs.declared.net.Net.{Net}
 use Rattle.net_addr.specs.declared.net.Net.TheVariants.{Unroutable, Ipv4, Ipv6, Onion, I2p, Cjdns, Internal}
 use Rattle.net_addr.specs.declared.peer.Peer.{Peer}
-use Rattle.peer_rec.specs.Rec.{chance, is_tried, network}
+use Rattle.peer_rec.specs.Rec.{chance, is_tried, network, next_factor}
 use Rattle.peer_rec.specs.declared.answers.Picked.TheVariants.{Nothing, Exhausted}
 use Rattle.peer_rec.specs.declared.rec.Rec.{Rec}
 use Rattle.placing.specs.Places.{tried_bucket, tried_slot}
@@ -24,7 +24,7 @@ use Rattle.risk_sum.specs.declared.kinds.Kind.{Kind}
 use Rattle.table_laws.specs.Chances.{leading_slots, words_for}
 use Rattle.table_laws.specs.Odds.{leading_starts}
 use Rattle.table_laws.specs.Searches.{idle_rounds, one_if, refusing_rounds}
-use Rattle.table_machine.specs.Picks.{candidates, candidates_of, candidates_of_either, first_accepted, first_factor, is_wanted, next_factor, select, wanted_new, wanted_tried}
+use Rattle.table_machine.specs.Picks.{candidates, candidates_of, candidates_of_either, first_accepted, first_factor, is_wanted, select, wanted_new, wanted_tried}
 use Rattle.table_machine.specs.Sound.{IsSound}
 use Rattle.table_machine.specs.State.{State}
 use Rattle.risk_parts.specs.Parts.{bound_in, millionths, share_for, wanted_in}

@@ -29,6 +29,7 @@ lead_of st now r = record {
   tried = leading_starts st false all r;
 }
 
+-- The number of starts of a table that lead to a record.
 abbrev pub lead_starts : Bool → Lead → ℕ
 lead_starts true lead = lead.new
 lead_starts false lead = lead.tried
@@ -46,7 +47,7 @@ abbrev pub FitTable : List Lead → Bool → Type 0
 FitTable leads in_new =
     (i : ℕ) → i < 18 → sum_by (class_starts in_new (get_or chances i 0)) leads ≤ NEW_SLOTS
 
--- how many starts lead to records of each chance
+-- The starts that lead to records of a chance, without those of a set.
 abbrev pub kind_of_all : List Lead → Bool → ℕ → Kind
 kind_of_all leads in_new likely = record {
   chance = likely;
@@ -54,6 +55,7 @@ kind_of_all leads in_new likely = record {
   theirs = 0;
 }
 
+-- The starts that lead to records, by their chances.
 abbrev pub kinds_of_all : List Lead → Bool → List Kind
 kinds_of_all leads in_new = map (kind_of_all leads in_new) chances
 
@@ -76,12 +78,16 @@ pub record FitsSets (leads : List Lead) (in_new : Bool) (kinds : List Kind) (wan
   pub fit : All (λ k. sum_by (class_starts in_new k.chance) (among leads sets) ≤ NEW_SLOTS) kinds
   pub are : (wanted == 0) ≡ false → AreKinds (map (with_theirs (among leads sets) in_new) kinds)
 
+-- Of 2^64 searches of a table, an upper bound on those that end at a record of the set, by the
+-- kinds of its records.
 unfoldable pub kinds_share : List Kind → ℕ
 kinds_share kinds = most_by kinds (starts_of kinds * 2 ^ 30) (2 ^ 64) AHEAD first_factor
 
+-- The same bound, at most all searches, and 0 if the table has no eligible record.
 abbrev pub share_within : ℕ → List Kind → ℕ
 share_within wanted kinds = if wanted == 0 then 0 else min (kinds_share kinds) (2 ^ 64)
 
+-- The parts of some sets, from what counts of each record and the kinds of both tables.
 abbrev pub parts_in : List Lead → List Kind → List Kind → ℕ → ℕ → List AddrSet → Parts
 parts_in leads new tried wanted_new wanted_tried sets =
     parts_from (share_within wanted_new (map (with_theirs (among leads sets) true) new))

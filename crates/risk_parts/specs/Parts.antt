@@ -13,6 +13,7 @@ use Rattle.risk_parts.specs.declared.parts.TheConstants.{AHEAD}
 abbrev pub HasNoTries : State → Type 0
 HasNoTries st = All (λ r. r.last_try ≡ 0) st.records
 
+-- The number of eligible records of the new table (`true`) or of the tried table (`false`).
 abbrev pub wanted_in : State → Bool → ℕ
 wanted_in st true = wanted_new st all
 wanted_in st false = wanted_tried st all

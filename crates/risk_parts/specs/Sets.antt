@@ -1,7 +1,6 @@
 -- Sets of addresses: which ones they have, and their texts.
-use Rattle.std.specs.Prelude.{◌≡◌, ◌≢◌, ℕ, ◌≤◌, ◌<◌, ◌^◌, ◌==◌, Bool, List, ◌∷◌, ◌++◌, codes, decimal, ⊤}
+use Rattle.std.specs.Prelude.{◌≡◌, ◌≢◌, ℕ, ◌≤◌, ◌<◌, ◌^◌, ◌==◌, Bool, List, ◌++◌, codes, decimal, ⊤}
 use Rattle.std.specs.List.{list_any}
-use Rattle.asmap_vm.specs.Asmap.{Asmap}
 use Rattle.ban_list.specs.Subnet.{IsProper, covers}
 use Rattle.ban_list.specs.SubnetText.{IsSubnetText, subnet_text}
 use Rattle.net_addr.specs.Address.{Address}

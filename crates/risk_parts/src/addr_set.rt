@@ -1,3 +1,5 @@
+//! `AddrSet`: a subnet or an AS, parsed and printed.
+
 ghost use Rattle.std.specs.Prelude.{◌≡◌, ◌≤◌, ◌<◌, ◌^◌, ◌++◌, ℕ, List, IfSome, IfNone, OnOk, codes, decimal};
 ghost use Rattle.risk_parts.specs.Sets.{IsProperSet, IsSetText, set_by, set_text};
 ghost use Rattle.risk_parts.specs.declared.addr_set.AddrSet.{AddrSet};

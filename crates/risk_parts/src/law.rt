@@ -1,3 +1,5 @@
+//! Laws: parts are bounds, and they last; the limits as numbers.
+
 ghost use Rattle.std.specs.Prelude.{◌≡◌, ℕ, ◌*◌, ◌^◌, ◌≤◌, Bool, true, false};
 ghost use Rattle.net_addr.specs.NetSet.{all};
 ghost use Rattle.net_addr.specs.declared.peer.Peer.{Peer};
@@ -23,6 +25,9 @@ pub fn limits()
 /// Of the (2^64)^n lists of n random words, for every n, `select` returns a peer of a set for at
 /// most the part that its parts say, in parts of a million: from both tables, or from the new one
 /// only. A search of the tried table ends at one for at most the part `tried`.
+///
+/// `picks` is about any table, and `new` about the new one only, of records of all networks.
+/// `parts_among` computes the parts for the peers that have an address in some sets.
 pub fn parts_are_bounds()
     ensures picks { (st : State) (now n : ℕ) (theirs : Peer → Bool) → IsSound st →
         selecting_lists st false all now theirs n * 10 ^ 6

@@ -1,3 +1,6 @@
+//! `Lead`: what counts of a record; and the starts by chance (`CHANCES`), of all records and of a
+//! set.
+
 ghost use Rattle.std.specs.Prelude.{◌≡◌, ◌≤◌, ◌<◌, ℕ, List, All, IfOk, filter, get_or, length, map, sum_by};
 ghost use Rattle.risk_sum.specs.declared.kinds.Kind.{Kind};
 ghost use Rattle.slot_grid.specs.declared.sizes.TheConstants.{NEW_SLOTS};

@@ -1,3 +1,9 @@
+//! `Parts`, `parts_among` and `millionths`, with `AHEAD`, `WHOLE` and `MILLION`.
+//!
+//! The parts are bounds in integers, each quotient rounded up: exact shares are fractions whose
+//! denominators have thousands of digits. The two differ by less than 2^-57, so a part that is a
+//! whole number of millionths may be printed as one more. A table's part is cut off at the whole.
+
 ghost use Rattle.std.specs.Prelude.{◌≡◌, ◌≤◌, ◌<◌, ◌^◌, ◌==◌, ◌||◌, ℕ, IfOk, length, true, false};
 ghost use Rattle.risk_sum.specs.Kinds.{AreKinds};
 ghost use Rattle.risk_parts.specs.Leads.{AreLeads, AreSomeLeads, FitsSets, parts_in, share_within};

@@ -4,7 +4,8 @@ use Rattle.std.proofs.Math.Nat.{div-lt_iff_lt-mul, min-le_right, mul-le-mul, mul
 use Rattle.std.proofs.lemmas.List.Elements.{All-head, All-tail}
 use Rattle.std.proofs.lemmas.List.Sums.{sum_by-cons}
 use Rattle.risk_sum.specs.declared.kinds.Kind.{Kind}
-use Rattle.risk_sum.specs.Kinds.{accepting, most_by, next_factor, refused_by, rounded_up, starts_of, taken_by}
+use Rattle.peer_rec.specs.Rec.{next_factor}
+use Rattle.risk_sum.specs.Kinds.{accepting, most_by, refused_by, rounded_up, starts_of, taken_by}
 
 pub taken_few : (kinds : List Kind) (factor : ℕ) → All (λ k. k.theirs ≤ k.all) kinds → taken_by kinds factor ≤ starts_of kinds * 2 ^ 30
 taken_few [] factor h = omega arith

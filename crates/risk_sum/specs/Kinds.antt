@@ -2,6 +2,7 @@
 -- starts lead to records of each chance. A start is a bucket and a slot of it to begin at; a round
 -- of the search is a start and the residue below 2^30 of the word that decides on the candidate.
 use Rattle.std.specs.Prelude.{ℕ, zero, suc, ◌+◌, ◌-◌, ◌*◌, ◌/◌, ◌^◌, ◌≤◌, ◌<◌, min, All, List, sum_by}
+use Rattle.peer_rec.specs.Rec.{next_factor}
 use Rattle.risk_sum.specs.declared.kinds.Kind.{Kind}
 
 -- how many residues accept a record of the chance
@@ -19,10 +20,6 @@ refused_by kinds factor = sum_by (λ k. k.all * (2 ^ 30 - accepting k.chance fac
 -- the quotient, rounded up
 abbrev pub rounded_up : ℕ → ℕ → ℕ
 rounded_up a b = (a + (b - 1)) / b
-
--- the factor grows by a fifth after each refusal
-abbrev pub next_factor : ℕ → ℕ
-next_factor factor = min (factor + factor / 5) (2 ^ 60)
 
 -- Of `left` searches, how many end from a factor on at a record of the set, at most. Of the rounds
 -- `busy` have a candidate. It looks so many refusals ahead; after these all that are left count.

@@ -1,5 +1,10 @@
+//! `Kind` and `most`: a sum over rounds and refusals in 128-bit integers, with each quotient
+//! rounded up.
+
 ghost use Rattle.std.specs.Prelude.{◌≡◌, ◌+◌, ◌-◌, ◌*◌, ◌^◌, ◌≤◌, ◌<◌, All, length};
-ghost use Rattle.risk_sum.specs.Kinds.{AreKinds, starts_of, accepting, most_by, next_factor, refused_by, rounded_up, taken_by};
+ghost use Rattle.risk_sum.specs.Kinds.{AreKinds, starts_of, accepting, most_by, refused_by, rounded_up, taken_by};
+
+use peer_rec::next_factor;
 
 /// The records of one chance in a table.
 #[derive(Clone, Copy, Default)]
@@ -33,20 +38,6 @@ fn refusing(chance: u32, factor: u64) -> u64
     ensures most { result ≤ 2 ^ 30 }
 {
     1_073_741_824 - accepting(chance, factor)
-}
-
-/// Returns the factor after a refusal (`AddrManImpl::Select_` in addrman.cpp of Bitcoin Core).
-fn next_factor(factor: u64) -> u64
-    requires { factor ≤ 2 ^ 60 }
-    ensures is { result ≡ next_factor factor }
-    ensures most { result ≤ 2 ^ 60 }
-{
-    let grown = factor + factor / 5;
-    if grown < 1_152_921_504_606_846_976 {
-        grown
-    } else {
-        1_152_921_504_606_846_976
-    }
 }
 
 /// Returns how many rounds, each a start and a residue, select a record of the set.

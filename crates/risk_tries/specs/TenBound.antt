@@ -13,6 +13,7 @@ use Rattle.table_machine.specs.State.{State}
 abbrev pub whole_of : State → ℕ
 whole_of st = if wanted_new st all == 0 || wanted_tried st all == 0 then 2 ^ 64 else 2 ^ 65
 
+-- The shares of a group in both tables, each of 2^64 searches.
 abbrev pub group_share : State → ℕ → List ℕ → ℕ
 group_share st now g =
     share_for st true now (λ peer. bytes_eq g (group st.places peer.addr))

@@ -1,3 +1,12 @@
+//! `ten_bound`: an upper bound, from the shares of groups, on the lists of tries that open all
+//! connections to them; with the least sums and `TRY_LISTS`.
+//!
+//! The open peers rule out their groups with all peers in them, so the bound needs the part of the
+//! picks of each group that the set reaches, and no more. Its product is 1.00 to 1.40 times the
+//! exact chance. Taking i times the least part instead of the least sum of i of them would need no
+//! sums, and be up to 1.6 times larger. It is computed of 2^62 lists of tries, so that the product
+//! of what is left with a share, at most 2^65, fits 128 bits.
+
 ghost use Rattle.std.specs.Prelude.{◌≡◌, ◌<◌, ◌≤◌, ◌^◌, All, IfSome, IfNone, fold, map, sum};
 ghost use Rattle.std.specs.List.{range_with_len};
 ghost use Rattle.risk_tries.specs.Inside.{after_one, least_sums, with_share};

@@ -15,6 +15,7 @@ left_at Rename max bytes = ask request.Rename ∷ ask request.SyncDir ∷ []
 left_at SyncDir max bytes = ask request.SyncDir ∷ []
 left_at Saved max bytes = []
 
+-- What is asked for at a stage; nothing once it is saved.
 abbrev pub asked_at : Stage → Option SaveRequest
 asked_at Create = Some request.Create
 asked_at Append = Some request.Append

@@ -12,9 +12,11 @@ pub record Request : Type 0 where
   pub what : SaveRequest
   pub bytes : List ℕ
 
+-- The request to do this, without bytes.
 abbrev pub ask : SaveRequest → Request
 ask what = record { what = what; bytes = [] }
 
+-- The request to append these bytes.
 abbrev pub ask_append : List ℕ → Request
 ask_append bytes = record { what = Append; bytes = bytes }
 
@@ -26,6 +28,7 @@ pieces_up_to (suc n) max [] = []
 pieces_up_to (suc n) max (b ∷ bytes) =
     take max (b ∷ bytes) ∷ pieces_up_to n max (drop max (b ∷ bytes))
 
+-- The bytes in pieces of at most this many.
 abbrev pub pieces : ℕ → List ℕ → List (List ℕ)
 pieces max bytes = pieces_up_to (length bytes) max bytes
 

@@ -1,3 +1,8 @@
+//! `SaveRequests`, `SaveRequest` and `Stage`: create, append, sync, rename, and sync the folder.
+//!
+//! It is not `SaveJob` of `save_store`, whose steps write as much as a line of a log says, on a
+//! `Folder`: here the bytes are cut into equal pieces for a caller who has no `Folder`.
+
 ghost use Rattle.std.specs.Prelude.{◌≡◌, ◌<◌, ◌≤◌, length, drop};
 ghost use Rattle.save_requests.specs.Requests.{next_of, piece_of, save_requests, IsSafeSave};
 ghost use Rattle.save_requests.specs.Inside.{asked_at, piece_at, stage_after};

@@ -1,3 +1,4 @@
+pub mod Asked
 pub mod Jobs
 pub mod Published
 pub mod Results

@@ -9,7 +9,7 @@ use Rattle.host_io.specs.declared.entry.Fate.TheVariants.{Absent, AnyBytes}
 use Rattle.host_io.specs.declared.name.Name.{Name}
 use Rattle.host_io.proofs.Moments.{begun, broke, broke_first, joined, went, went_first}
 use Rattle.host_io.proofs.Names.{under_each, under_other, under_same}
-use Rattle.save_store.specs.Saves.{IsStored, IsSynced, KeepsOthers, PublishesOrNot}
+use Rattle.save_store.specs.Saves.{IsFree, IsStored, IsSynced, KeepsOthers, PublishesOrNot}
 
 -- a file that is synced: a crash that leaves it leaves its bytes
 record Synced (bytes : List ℕ) (e : DiskEntry) : Type 0 where
@@ -178,6 +178,23 @@ stored temp name bytes None mid new apart safe goes ends =
 stored temp name bytes (Some old) mid new apart safe goes ends =
     subst (λ o. IfSome o (λ p. IsStored name bytes p.now)) (sym (ends ∙ ap (after after_sync_dir) goes))
     (all_there temp name bytes old.now apart (safe_of temp bytes old.now safe))
+
+-- the temporary name has no file any more
+gone : (temp name : Name) (d : Disk) → IsFree temp (after_sync_dir (after_rename temp name d))
+gone temp name d found may =
+    elim (subst (λ entry. MayHave (settled entry) found) (under_same (with d name (target (under d temp) (under d name))) temp (left (under d temp)))
+    (subst (λ entry. MayHave entry found) (under_each settled (after_rename temp name d) temp) may)) [
+      | inl is ↦ is
+      | inr none ↦ absurd none
+    ]
+
+pub freed : (temp name : Name) (old mid new : Option Past) → mid ≡ after (after_rename temp name) old
+    → new ≡ after after_sync_dir mid → IfSome new (λ p. IsFree temp p.now)
+freed temp name None mid new goes ends =
+    subst (λ o. IfSome o (λ p. IsFree temp p.now)) (sym (ends ∙ ap (after after_sync_dir) goes)) tt
+freed temp name (Some old) mid new goes ends =
+    subst (λ o. IfSome o (λ p. IsFree temp p.now)) (sym (ends ∙ ap (after after_sync_dir) goes))
+    (gone temp name old.now)
 
 -- OVER A WHOLE SAVE
 

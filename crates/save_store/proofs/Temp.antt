@@ -1,14 +1,12 @@
 -- What the calls on the temporary file leave of the folder.
-use Rattle.std.proofs.Common.{◌≡◌, ℕ, List, [], ◌∷◌, ◌++◌, refl, sym, ap, ◌∙◌, subst, inl, inr, length, take, arith}
-use Rattle.std.specs.Prelude.{Option, Some, None, IfSome, IsSome, true, false, Bool}
+use Rattle.std.proofs.Common.{◌≡◌, ℕ, List, [], ◌++◌, refl, sym, ap, ◌∙◌, subst, inl, inr, take}
+use Rattle.std.specs.Prelude.{Option, Some, None, IfSome, IsSome}
 use Rattle.std.specs.Option.{option_map}
-use Rattle.host_io.specs.declared.entry.Fate.TheVariants.{AnyBytes}
-use Rattle.host_io.specs.Disk.{Disk, DiskEntry, AllowsOne, MayHave, Partly, PartlyAppended, after_append, after_create, after_sync, appended, created, exactly, onto_if, synced}
+use Rattle.host_io.specs.Disk.{Disk, DiskEntry, MayHave, Partly, PartlyAppended, after_append, after_create, after_sync, appended, created, synced}
 use Rattle.host_io.specs.Files.{IsThere}
-use Rattle.host_io.specs.Past.{Past, AfterFault, Always, after, files_of}
+use Rattle.host_io.specs.Past.{Past, AfterFault, Always, IsNew, after, files_of}
 use Rattle.host_io.specs.PerName.{under, with}
 use Rattle.host_io.specs.declared.name.Name.{Name}
-use Rattle.host_io.specs.declared.entry.Fate.{Fate}
 use Rattle.host_io.proofs.Moments.{begun, broke, went}
 use Rattle.host_io.proofs.Names.{under_each, under_other, under_same}
 use Rattle.save_store.specs.Job.{ReadsAs}
@@ -61,7 +59,7 @@ pub reads_there : (name : Name) (bytes : List ℕ) (past : Option Past)
     → ReadsAs name bytes past → IsThere (files_of past) name
 reads_there name bytes None reads = tt
 reads_there name bytes (Some p) reads =
-    there name (Some p) (some_there (under p.now name).file bytes reads)
+    there name (Some p) (some_there (under p.now name).file bytes reads.0)
 
 pub some_reads_there : (name : Name) (past : Option Past)
     → (bytes : List ℕ) × ReadsAs name bytes past → IsThere (files_of past) name
@@ -73,13 +71,30 @@ synced_there name None synced = tt
 synced_there name (Some p) synced =
     there name (Some p) (some_there (under p.now name).file synced.0 synced.1.reads)
 
+-- this run created the file
+
+pub reads_new : (name : Name) (bytes : List ℕ) (past : Option Past) → ReadsAs name bytes past → IsNew past name
+reads_new name bytes None reads = tt
+reads_new name bytes (Some p) reads = reads.1
+
+pub some_reads_new : (name : Name) (past : Option Past)
+    → (bytes : List ℕ) × ReadsAs name bytes past → IsNew past name
+some_reads_new name past reads = reads_new name reads.0 past reads.1
+
+pub synced_new : (name : Name) (past : Option Past)
+    → IfSome past (λ p. (bytes : List ℕ) × IsSynced name bytes p.now) → IsNew past name
+synced_new name None synced = tt
+synced_new name (Some p) synced = synced.1.created
+
 -- the bytes as they read
 
 pub created_reads : (name : Name) (old new : Option Past) → new ≡ after (after_create name) old
     → ReadsAs name [] new
 created_reads name None new goes = subst (ReadsAs name []) (sym goes) tt
 created_reads name (Some p) new goes =
-    subst (ReadsAs name []) (sym goes) (ap (λ (e : DiskEntry). e.file) (under_same p.now name created))
+    let at = under_same p.now name created in
+    subst (ReadsAs name []) (sym goes)
+    (ap (λ (e : DiskEntry). e.file) at, ap (λ (e : DiskEntry). e.is_loose) at)
 
 pub appended_reads : (name : Name) (written bytes : List ℕ) (old new : Option Past)
     → ReadsAs name written old → new ≡ after (after_append name bytes) old
@@ -87,9 +102,11 @@ pub appended_reads : (name : Name) (written bytes : List ℕ) (old new : Option 
 appended_reads name written bytes None new reads goes =
     subst (ReadsAs name (written ++ bytes)) (sym goes) tt
 appended_reads name written bytes (Some p) new reads goes =
-    subst (ReadsAs name (written ++ bytes)) (sym goes)
-    (ap (λ (e : DiskEntry). e.file) (under_same p.now name (appended bytes (under p.now name)))
-    ∙ ap (option_map (λ old. old ++ bytes)) reads)
+    let at = under_same p.now name (appended bytes (under p.now name)) in
+    subst (ReadsAs name (written ++ bytes)) (sym goes) (
+      ap (λ (e : DiskEntry). e.file) at ∙ ap (option_map (λ old. old ++ bytes)) reads.0,
+      ap (λ (e : DiskEntry). e.is_loose) at ∙ reads.1,
+    )
 
 -- what is synced
 
@@ -101,8 +118,9 @@ is_synced name bytes None new reads goes =
 is_synced name bytes (Some p) new reads goes =
     let at = under_same p.now name (synced (under p.now name)) in
     subst (λ o. IfSome o (λ q. IsSynced name bytes q.now)) (sym goes) (record {
-      reads = ap (λ (e : DiskEntry). e.file) at ∙ reads;
+      reads = ap (λ (e : DiskEntry). e.file) at ∙ reads.0;
       synced = ap (λ (e : DiskEntry). e.is_torn) at;
+      created = ap (λ (e : DiskEntry). e.is_loose) at ∙ reads.1;
     })
 
 -- a name that was created, appended to and synced
@@ -144,25 +162,6 @@ written_safe name bytes (Some p) one two new created appended goes =
       only = λ found may. only_written bytes found
           (subst (λ entry. MayHave entry (Some found)) (written_at name bytes p.now) may);
     })
-
-not_torn : (is_torn : Bool) (bytes : List ℕ) (file : Option (List ℕ)) (more : List Fate)
-    → ((f : List ℕ) → AllowsOne (exactly file ∷ onto_if is_torn AnyBytes more) (Some f) → f ≡ bytes)
-    → is_torn ≡ false
-not_torn true bytes file more only =
-    absurd (omega (arith, ap length (only (0 ∷ bytes) (inr (inl refl)))))
-not_torn false bytes file more only = refl
-
--- a file that is safe is synced
-synced_of : (name : Name) (bytes : List ℕ) (d : Disk) → IsSafe name bytes d → IsSynced name bytes d
-synced_of name bytes d safe = record {
-  reads = safe.reads;
-  synced = not_torn (under d name).is_torn bytes (under d name).file _ safe.only;
-}
-
-pub safe_is_synced : (name : Name) (bytes : List ℕ) (past : Option Past)
-    → IfSome past (λ p. IsSafe name bytes p.now) → IfSome past (λ p. IsSynced name bytes p.now)
-safe_is_synced name bytes None safe = tt
-safe_is_synced name bytes (Some p) safe = synced_of name bytes p.now safe
 
 -- what a file that was written gives to `publish`
 pub some_synced : (name : Name) (bytes : List ℕ) (past : Option Past)

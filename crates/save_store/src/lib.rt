@@ -9,8 +9,11 @@
 //!   above the limit, unless the folder fails or memory runs out (`found`, `absent`, `larger`,
 //!   `too_large`, `cause`).
 //! - `write_temp` and `publish`, or `save` at once, replace a file: at every moment a crash leaves
-//!   the old file or the whole new one, and after `Ok` the new one (`any_moment`, `stored`). A
-//!   `SaveJob` does the same in pieces.
+//!   the old file or the whole new one, and after `Ok` the new one and none under the temporary
+//!   name (`any_moment`, `stored`, `free`). A `SaveJob` does the same in pieces.
+//! - `load` asks the folder for nothing but the size and the bytes of its file, and a save makes no
+//!   calls but its own (`asks`); one that succeeds makes each once, in this order: create, append,
+//!   sync, rename, and the sync of the folder (`order`).
 //!
 //! Tested besides, in `test_outside`: saves in which each call of the folder fails in turn.
 #![tactic(auto)]

@@ -1,7 +1,10 @@
+//! `load` reads a file up to a limit; `LoadFault` has the size of one that is too large.
+
 ghost use Rattle.host_io.specs.declared.failed.ReadFault.TheVariants as read;
 ghost use Rattle.save_store.specs.declared.loading.LoadFault.TheVariants as fault;
 ghost use Rattle.std.specs.Prelude.{◌≡◌, ℕ, ◌<◌, ◌≤◌, ◌⊎◌, length, IfOk, IfSome, IsErrOf};
 ghost use Rattle.std.specs.Option.{option_map};
+ghost use Rattle.host_io.specs.Calls.{IsReadOf, OnlyCalls};
 ghost use Rattle.host_io.specs.Faults.{Rose};
 ghost use Rattle.host_io.specs.Files.{known_bytes};
 ghost use Rattle.host_io.specs.Past.{files_of};
@@ -47,6 +50,7 @@ impl From<ReadFault> for LoadFault {
 /// Returns the bytes of a file as it was when its size was asked, or `None` if it is absent. If the
 /// size is above `limit`, no byte is read. Otherwise the file is read at least once. A folder whose
 /// files contracts do not know may give fewer bytes than the size; then those are the result.
+#[tactic(auto, using(host_io::proofs::Asking::size_ok, host_io::proofs::Asking::size_err, host_io::proofs::Asking::size_then))]
 pub fn load<F: Folder>(
     alloc: Global,
     folder: &mut F,
@@ -69,6 +73,7 @@ pub fn load<F: Folder>(
         Rose (F.faults folder.old) (F.faults folder.new) }
     ensures same { F.past folder.new ≡ F.past folder.old }
     ensures never_falls { F.faults folder.old ≤ F.faults folder.new }
+    ensures asks { OnlyCalls (IsReadOf name) (F.calls folder.old) (F.calls folder.new) }
 {
     let Some(size) = folder.size(name)? else {
         return Ok(None);

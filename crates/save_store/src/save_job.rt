@@ -1,8 +1,13 @@
+//! `SaveJob`, a save in pieces with the bytes written and those left: `begin`, `step` and `end`.
+
 ghost use Rattle.std.specs.Prelude.{◌≡◌, ◌≢◌, ◌≤◌, ◌++◌, ℕ, List, [], take, drop, length, IfOk, IfSome, OnOk, OnErr};
+ghost use Rattle.host_io.specs.Calls.{IsSaveOf, OnlyCalls, calls_to_publish, with_call};
 ghost use Rattle.host_io.specs.Faults.{Rose};
 ghost use Rattle.host_io.specs.Past.{Always};
+ghost use Rattle.host_io.specs.declared.call.Action.{Action};
+ghost use Rattle.host_io.specs.declared.name.Name.{Name};
 ghost use Rattle.save_store.specs.Job.{ReadsAs, whole};
-ghost use Rattle.save_store.specs.Saves.{KeepsOthers, PublishesOrNot, IsSynced, IsStored};
+ghost use Rattle.save_store.specs.Saves.{KeepsOthers, PublishesOrNot, IsFree, IsSynced, IsStored};
 
 use crate::saving::publish;
 use host_io::{Bytes, Failed, Folder, Name};
@@ -40,6 +45,10 @@ impl SaveJob {
             job ≡ record { temp = temp; written = []; left = bytes }) }
         ensures reads { IfOk result (λ job. ReadsAs job.temp job.written (F.past folder.new)) }
         ensures cause { OnErr result (Rose (F.faults folder.old) (F.faults folder.new)) }
+        ensures order { OnOk result
+            (F.calls folder.new ≡ with_call (Action.Create temp) (F.calls folder.old)) }
+        ensures asks { (name : Name) →
+            OnlyCalls (IsSaveOf temp name) (F.calls folder.old) (F.calls folder.new) }
         ensures never_falls { F.faults folder.old ≤ F.faults folder.new }
     {
         folder.create(temp)?;
@@ -63,6 +72,11 @@ impl SaveJob {
         }) }
         ensures reads { IfOk result (λ job. ReadsAs job.temp job.written (F.past folder.new)) }
         ensures cause { OnErr result (Rose (F.faults folder.old) (F.faults folder.new)) }
+        ensures order { OnOk result (F.calls folder.new
+            ≡ with_call (Action.Append self.temp (length (take count self.left)))
+            (F.calls folder.old)) }
+        ensures asks { (name : Name) →
+            OnlyCalls (IsSaveOf self.temp name) (F.calls folder.old) (F.calls folder.new) }
         ensures never_falls { F.faults folder.old ≤ F.faults folder.new }
     {
         let SaveJob { temp, bytes, done } = self;
@@ -83,7 +97,7 @@ impl SaveJob {
 
     /// Appends the bytes left, makes them safe, and puts the file in the place of the one that it
     /// is for. Until `Ok`, a crash leaves that file as it was or the new one; afterwards always the
-    /// new one.
+    /// new one, and none under the temporary name.
     pub fn end<F: Folder>(self, folder: &mut F, name: Name) -> Result<(), Failed>
         requires apart { self.temp ≢ name }
         requires reads { ReadsAs self.temp self.written (F.past folder.old) }
@@ -92,6 +106,12 @@ impl SaveJob {
         ensures stored { OnOk result
             (IfSome (F.past folder.new) (λ p. IsStored name (whole self) p.now)) }
         ensures cause { OnErr result (Rose (F.faults folder.old) (F.faults folder.new)) }
+        ensures free { OnOk result (IfSome (F.past folder.new) (λ p. IsFree self.temp p.now)) }
+        ensures order { OnOk result (F.calls folder.new ≡ calls_to_publish self.temp name
+            (with_call (Action.Sync self.temp)
+            (with_call (Action.Append self.temp (length self.left)) (F.calls folder.old)))) }
+        ensures asks { OnlyCalls (IsSaveOf self.temp name)
+            (F.calls folder.old) (F.calls folder.new) }
         ensures never_falls { F.faults folder.old ≤ F.faults folder.new }
     {
         finish(folder, self.temp, name, &self.bytes.items()[self.done..])
@@ -123,6 +143,10 @@ fn write_next<F: Folder>(
     ensures reads { (written : List ℕ) → ReadsAs temp written (F.past folder.old) →
         OnOk result (ReadsAs temp (written ++ take count bytes.now) (F.past folder.new)) }
     ensures cause { OnErr result (Rose (F.faults folder.old) (F.faults folder.new)) }
+    ensures order { OnOk result (F.calls folder.new
+        ≡ with_call (Action.Append temp (length (take count bytes.now))) (F.calls folder.old)) }
+    ensures asks { (name : Name) →
+        OnlyCalls (IsSaveOf temp name) (F.calls folder.old) (F.calls folder.new) }
     ensures never_falls { F.faults folder.old ≤ F.faults folder.new }
 {
     let next = first_of(bytes, count);
@@ -138,6 +162,10 @@ fn write_rest<F: Folder>(folder: &mut F, temp: Name, bytes: &[u8]) -> Result<(),
         OnOk result (IfSome (F.past folder.new) (λ p.
         IsSynced temp (written ++ bytes.now) p.now)) }
     ensures cause { OnErr result (Rose (F.faults folder.old) (F.faults folder.new)) }
+    ensures order { OnOk result (F.calls folder.new ≡ with_call (Action.Sync temp)
+        (with_call (Action.Append temp (length bytes.now)) (F.calls folder.old))) }
+    ensures asks { (name : Name) →
+        OnlyCalls (IsSaveOf temp name) (F.calls folder.old) (F.calls folder.new) }
     ensures never_falls { F.faults folder.old ≤ F.faults folder.new }
 {
     folder.append(temp, bytes)?;
@@ -155,6 +183,11 @@ fn finish<F: Folder>(folder: &mut F, temp: Name, name: Name, bytes: &[u8]) -> Re
         OnOk result (IfSome (F.past folder.new) (λ p.
         IsStored name (written ++ bytes.now) p.now)) }
     ensures cause { OnErr result (Rose (F.faults folder.old) (F.faults folder.new)) }
+    ensures free { OnOk result (IfSome (F.past folder.new) (λ p. IsFree temp p.now)) }
+    ensures order { OnOk result (F.calls folder.new ≡ calls_to_publish temp name
+        (with_call (Action.Sync temp)
+        (with_call (Action.Append temp (length bytes.now)) (F.calls folder.old)))) }
+    ensures asks { OnlyCalls (IsSaveOf temp name) (F.calls folder.old) (F.calls folder.new) }
     ensures never_falls { F.faults folder.old ≤ F.faults folder.new }
 {
     write_rest(folder, temp, bytes)?;

@@ -1,5 +1,5 @@
 -- A session over several lines, and what a crash may leave of peers.dat.
-use Rattle.std.specs.Prelude.{◌≡◌, ◌≢◌, ◌⊎◌, ℕ, ◌+◌, ◌-◌, List, [], ◌∷◌, Option, Some, None, IfSome}
+use Rattle.std.specs.Prelude.{◌≡◌, ◌≢◌, ◌⊎◌, ℕ, ◌+◌, List, [], ◌∷◌, Option, Some, None, IfSome}
 use Rattle.std.specs.Option.{option_map}
 use Rattle.host_io.specs.Disk.{Disk, MayHave}
 use Rattle.host_io.specs.Past.{Past}
@@ -22,6 +22,7 @@ pub record History : Type 0 where
 abbrev pub fresh : SessionState → History
 fresh st = record { now = st; ended = [] }
 
+-- The saves that have ended, with one more before them if there is one.
 abbrev pub onto : Option Ended → List Ended → List Ended
 onto None ended = ended
 onto (Some one) ended = one ∷ ended

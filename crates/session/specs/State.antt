@@ -18,6 +18,7 @@ pub record SessionState : Type 0 where
   pub machine : Machine
   pub job : Option Job
 
+-- The session with this chain, this machine and this open save.
 abbrev pub state : Chain → Machine → Option Job → SessionState
 state chain machine job = record { chain = chain; machine = machine; job = job }
 

@@ -1,3 +1,5 @@
+//! The law that the text of a run determines its history.
+
 ghost use Rattle.std.specs.Prelude.{◌≡◌, ◌++◌, ℕ, List};
 ghost use Rattle.log_run.specs.Run.{Run};
 ghost use Rattle.session.specs.History.{History, HistoryStep};

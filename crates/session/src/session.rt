@@ -1,3 +1,5 @@
+//! `Session` with its `line`, and its `LineSteps` for a run over a log.
+
 ghost use Rattle.std.specs.Prelude.{◌≡◌};
 
 use crate::carry_out::carry_out;

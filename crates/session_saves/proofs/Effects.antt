@@ -2,9 +2,11 @@
 use Rattle.std.proofs.Common.{◌≡◌, ℕ, List, [], ◌++◌, length, take, inl, refl, sym, ◌∙◌, subst}
 use Rattle.std.specs.Prelude.{Option, Some, None, IfSome, ◌≢◌, true, false}
 use Rattle.std.specs.Option.{option_map}
+use Rattle.host_io.specs.Calls.{IsSaveOf, OnlyCalls}
 use Rattle.host_io.specs.Disk.{Disk, MayHave}
 use Rattle.host_io.specs.Faults.{Rose}
 use Rattle.host_io.specs.Past.{Past, Always}
+use Rattle.host_io.specs.declared.call.Action.{Action}
 use Rattle.host_io.specs.declared.name.Name.{Name}
 use Rattle.host_io.specs.declared.name.Name.TheVariants.{Peers, PeersTemp}
 use Rattle.host_io.proofs.Moments.{begun as nothing_since, joined}
@@ -25,6 +27,11 @@ IsPeers n = ⊥
 pub peers_apart : Peers ≢ PeersTemp
 unfolding IsPeers
 peers_apart e = subst IsPeers e tt
+
+-- the calls of a save, where the temporary name is known
+pub asks_of : (t : Name) (a b : Option (List Action)) → t ≡ PeersTemp → OnlyCalls (IsSaveOf t Peers) a b
+    → OnlyCalls (IsSaveOf PeersTemp Peers) a b
+asks_of t a b is = subst (λ temp. OnlyCalls (IsSaveOf temp Peers) a b) is
 
 -- if it cannot be that a save is open, none is
 pub is_none : (job : Option Job) → ¬ (job ≢ None) → job ≡ None
@@ -47,14 +54,6 @@ kept_moments old new always =
 -- nothing was called
 pub still_moments : (old : Option Past) → Always old old (AtMost None)
 still_moments old = nothing_since (AtMost None) old (λ d. record { at = λ found may. inl may; others = λ n t m found may. may })
-
-published_moments : (file : List ℕ) (old new : Option Past) → Always old new (PublishesOrNot PeersTemp Peers file)
-    → Always old new (AtMost (Some file))
-published_moments file old new always =
-    joined (PublishesOrNot PeersTemp Peers file) (λ d e. e ≡ d) (AtMost (Some file)) old new new always
-    (nothing_since (λ d e. e ≡ d) new (λ d. refl))
-    (λ start d p. record { at = p.at; others = p.others })
-    (λ start d e p same. subst (AtMost (Some file) start) (sym same) (record { at = p.at; others = p.others }))
 
 pub save_begun : (file : List ℕ) (n : ℕ) (b : Job) (old new : Option Past) (f g : ℕ) → b ≡ begun file → n ≡ length file
     → Always old new (KeepsOthers PeersTemp) → ReadsAs PeersTemp [] new
@@ -112,7 +111,7 @@ whole_saved file old new f g always stored = record {
   ended = Some (was_saved file);
   step = (true, refl, refl, refl);
   has = stored;
-  moments = published_moments file old new always;
+  moments = always;
   is_open = tt;
 }
 
@@ -122,7 +121,7 @@ whole_failed file old new f g always rose = record {
   ended = Some (was_not file);
   step = (false, refl, refl, refl);
   has = rose;
-  moments = published_moments file old new always;
+  moments = always;
   is_open = tt;
 }
 
@@ -134,7 +133,7 @@ job_saved job j old new f g some temp always stored =
       ended = Some (was_saved (whole j));
       step = (true, refl, refl, refl);
       has = stored;
-      moments = published_moments (whole j) old new (subst (λ t. Always old new (PublishesOrNot t Peers (whole j))) temp always);
+      moments = subst (λ t. Always old new (PublishesOrNot t Peers (whole j))) temp always;
       is_open = tt;
     })
 
@@ -146,7 +145,7 @@ job_failed job j old new f g some temp always rose =
       ended = Some (was_not (whole j));
       step = (false, refl, refl, refl);
       has = rose;
-      moments = published_moments (whole j) old new (subst (λ t. Always old new (PublishesOrNot t Peers (whole j))) temp always);
+      moments = subst (λ t. Always old new (PublishesOrNot t Peers (whole j))) temp always;
       is_open = tt;
     })
 

@@ -19,6 +19,7 @@ pub record Event : Type 0 where
   pub job : Option Job
   pub ended : Option Ended
 
+-- The event with this reply, this open save after it, and this save that ended.
 abbrev pub event : Reply → Option Job → Option Ended → Event
 event answer job ended = record { reply = answer; job = job; ended = ended }
 

@@ -1,14 +1,13 @@
 -- What a save event does to the folder.
-use Rattle.std.specs.Prelude.{◌≡◌, ◌≢◌, ◌⊎◌, ℕ, Bool, List, Option, Some, None, IfSome, ⊤}
-use Rattle.host_io.specs.Disk.{Disk, MayHave}
+use Rattle.std.specs.Prelude.{◌≡◌, ℕ, Bool, List, Option, Some, None, IfSome, ⊤}
+use Rattle.host_io.specs.Disk.{Disk}
 use Rattle.host_io.specs.Faults.{Rose}
 use Rattle.host_io.specs.Past.{Always, Past}
 use Rattle.host_io.specs.PerName.{under}
-use Rattle.host_io.specs.declared.name.Name.{Name}
 use Rattle.host_io.specs.declared.name.Name.TheVariants.{Peers, PeersTemp}
 use Rattle.log_lines.specs.declared.reply.Reply.{Reply}
 use Rattle.save_store.specs.Job.{Job, ReadsAs}
-use Rattle.save_store.specs.Saves.{IsStored, NoMore}
+use Rattle.save_store.specs.Saves.{IsOldOrNew, IsStored}
 use Rattle.session_saves.specs.Events.{Ended, Event, IsOfEvent}
 use Rattle.session_saves.specs.Events.Ended.{NotSaved, Saved}
 
@@ -17,12 +16,9 @@ abbrev pub LeavesFile : Option (List ℕ) → Option (List ℕ) → Type 0
 LeavesFile None found = ⊥
 LeavesFile (Some file) found = found ≡ Some file
 
--- A crash leaves at peers.dat what it could leave there at the start, or the file, and at each
--- other name but peers.tmp nothing more than at the start.
-pub record AtMost (file : Option (List ℕ)) (start disk : Disk) : Type 0 where
-  pub at : (found : Option (List ℕ)) → MayHave (under disk Peers) found →
-      MayHave (under start Peers) found ⊎ LeavesFile file found
-  pub others : (other : Name) → other ≢ PeersTemp → other ≢ Peers → NoMore start disk other
+-- At peers.dat the old file, or this one, if there is one.
+abbrev pub AtMost : Option (List ℕ) → Disk → Disk → Type 0
+AtMost file = IsOldOrNew PeersTemp Peers (LeavesFile file)
 
 -- peers.tmp reads as the bytes written of the open save, if one is open
 abbrev pub IsOpen : Option Job → Option Past → Type 0

@@ -1,3 +1,5 @@
+//! `encode`: the bytes of `peers.dat` for the tables as they are.
+
 ghost use Rattle.std.specs.Prelude.{◌≡◌, IfOk};
 ghost use Rattle.session_saves.specs.Files.{file_of};
 

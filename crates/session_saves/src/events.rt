@@ -1,6 +1,10 @@
+//! Each save command as an event (whole, begin, step or end), with its reply.
+
 ghost use Rattle.std.specs.Prelude.{◌≡◌, ◌≤◌, Some, None};
 ghost use Rattle.std.specs.Option.{option_map};
 ghost use Rattle.save_store.specs.Job.{whole};
+ghost use Rattle.host_io.specs.Calls.{IsSaveOf, OnlyCalls};
+ghost use Rattle.host_io.specs.declared.name.Name.TheVariants.{Peers, PeersTemp};
 ghost use Rattle.session_saves.specs.Events as event;
 ghost use Rattle.session_saves.specs.Folders.{Effect, IsOpen};
 
@@ -12,6 +16,8 @@ use save_store::{SaveJob, save};
 pub(crate) fn save_line<F: Folder>(folder: &mut F, file: &Bytes) -> Reply
     ensures effect { Effect (event.save file.now None) (Some file.now) result None
         (F.past folder.old) (F.past folder.new) (F.faults folder.old) (F.faults folder.new) }
+    ensures asks { OnlyCalls (IsSaveOf PeersTemp Peers)
+        (F.calls folder.old) (F.calls folder.new) }
     ensures never_falls { F.faults folder.old ≤ F.faults folder.new }
 {
     match save(folder, Name::PeersTemp, Name::Peers, file.items()) {
@@ -24,6 +30,8 @@ pub(crate) fn save_line<F: Folder>(folder: &mut F, file: &Bytes) -> Reply
 pub(crate) fn begin_line<F: Folder>(folder: &mut F, file: Bytes) -> (Option<SaveJob>, Reply)
     ensures effect { Effect (event.save_begin file None) None result.1 result.0
         (F.past folder.old) (F.past folder.new) (F.faults folder.old) (F.faults folder.new) }
+    ensures asks { OnlyCalls (IsSaveOf PeersTemp Peers)
+        (F.calls folder.old) (F.calls folder.new) }
     ensures never_falls { F.faults folder.old ≤ F.faults folder.new }
 {
     let size = file.items().len() as u64;
@@ -34,11 +42,14 @@ pub(crate) fn begin_line<F: Folder>(folder: &mut F, file: Bytes) -> (Option<Save
 }
 
 /// Writes the next `count` bytes of the open save. If that fails, no save is open any more.
+#[tactic(auto, using(host_io::proofs::Asking::none))]
 pub(crate) fn step_line<F: Folder>(folder: &mut F, job: &mut Option<SaveJob>, count: u32) -> Reply
     requires is_open { IsOpen job.old (F.past folder.old) }
     ensures effect { Effect (event.save_step count job.old) None result job.new
         (F.past folder.old) (F.past folder.new) (F.faults folder.old) (F.faults folder.new) }
     ensures still { job.old ≡ None → folder.new ≡ folder.old }
+    ensures asks { OnlyCalls (IsSaveOf PeersTemp Peers)
+        (F.calls folder.old) (F.calls folder.new) }
     ensures never_falls { F.faults folder.old ≤ F.faults folder.new }
 {
     match job.take() {
@@ -55,11 +66,14 @@ pub(crate) fn step_line<F: Folder>(folder: &mut F, job: &mut Option<SaveJob>, co
 }
 
 /// Ends the open save, after which no save is open.
+#[tactic(auto, using(host_io::proofs::Asking::none))]
 pub(crate) fn end_line<F: Folder>(folder: &mut F, job: &mut Option<SaveJob>) -> Reply
     requires is_open { IsOpen job.old (F.past folder.old) }
     ensures effect { Effect (event.save_end job.old) (option_map whole job.old) result job.new
         (F.past folder.old) (F.past folder.new) (F.faults folder.old) (F.faults folder.new) }
     ensures still { job.old ≡ None → folder.new ≡ folder.old }
+    ensures asks { OnlyCalls (IsSaveOf PeersTemp Peers)
+        (F.calls folder.old) (F.calls folder.new) }
     ensures never_falls { F.faults folder.old ≤ F.faults folder.new }
 {
     match job.take() {

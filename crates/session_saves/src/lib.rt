@@ -3,10 +3,10 @@
 //! Proved, of `carry_out_save`:
 //! - The reply to a save command and the open save after it are those of its event, done or failed;
 //!   a save that ended left its file in `peers.dat`, or the folder failed (`effect`).
-//! - At every moment a crash leaves in `peers.dat` what it could leave before, or the file that
-//!   this
+//! - At every moment a crash leaves in `peers.dat` what it could leave before, or the file that this
 //!   command may publish (`any_moment`). A command that is answered `busy` or `no save` leaves the
-//!   folder as it is (`still`).
+//!   folder as it is (`still`). No call of the folder is made but those of a save of `peers.dat`
+//!   (`asks`).
 //! - Any other command does nothing (`none`), and if memory runs out, nothing changes (`err`).
 #![tactic(auto)]
 

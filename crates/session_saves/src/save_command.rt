@@ -1,5 +1,9 @@
+//! `carry_out_save`: which command is which event, `busy` and `no save`.
+
 ghost use Rattle.std.specs.Prelude.{◌≡◌, ◌≤◌, None, IfOk, IfSome, IsSomeAnd, OnErr};
 ghost use Rattle.host_io.specs.Past.{Always};
+ghost use Rattle.host_io.specs.Calls.{IsSaveOf, OnlyCalls};
+ghost use Rattle.host_io.specs.declared.name.Name.TheVariants.{Peers, PeersTemp};
 ghost use Rattle.session_saves.specs.Events.{IsEvent, event_of};
 ghost use Rattle.session_saves.specs.Files.{file_of, published};
 ghost use Rattle.session_saves.specs.Folders.{AtMost, Effect, IsOpen};
@@ -15,6 +19,7 @@ use std::hash::BuildHasher;
 use tables::{Memory, Tables};
 
 /// Carries out a command if it is one of a save. Returns `None` for any other, and does nothing.
+#[tactic(auto, using(host_io::proofs::Asking::none))]
 pub fn carry_out_save<F: Folder, H: BuildHasher>(
     alloc: Global,
     folder: &mut F,
@@ -36,6 +41,8 @@ pub fn carry_out_save<F: Folder, H: BuildHasher>(
         OnErr done ((folder.new ≡ folder.old) × (job.new ≡ job.old))) }
     ensures none { result ≡ None → (event_of (file_of chain tables.now) job.old command.now ≡ None)
         × (folder.new ≡ folder.old) × (job.new ≡ job.old) }
+    ensures asks { OnlyCalls (IsSaveOf PeersTemp Peers)
+        (F.calls folder.old) (F.calls folder.new) }
     ensures never_falls { F.faults folder.old ≤ F.faults folder.new }
 {
     match command {

@@ -1,4 +1,8 @@
+//! Saves or begins to save the tables, unless a save is open.
+
 ghost use Rattle.std.specs.Prelude.{◌≡◌, ◌≢◌, ◌≤◌, None, IfOk, OnErr};
+ghost use Rattle.host_io.specs.Calls.{IsSaveOf, OnlyCalls};
+ghost use Rattle.host_io.specs.declared.name.Name.TheVariants.{Peers, PeersTemp};
 ghost use Rattle.session_saves.specs.Events as event;
 ghost use Rattle.session_saves.specs.Files.{file_of, unless};
 ghost use Rattle.session_saves.specs.Folders.{Effect, IsOpen};
@@ -16,6 +20,7 @@ use std::sync::ledger::Blank;
 use tables::{Memory, Tables};
 
 /// Saves the tables whole, unless a save is open.
+#[tactic(auto, using(host_io::proofs::Asking::none))]
 pub(crate) fn save<F: Folder, H: BuildHasher>(
     alloc: Global,
     folder: &mut F,
@@ -30,6 +35,8 @@ pub(crate) fn save<F: Folder, H: BuildHasher>(
         (F.past folder.old) (F.past folder.new) (F.faults folder.old) (F.faults folder.new)) }
     ensures err { OnErr result (folder.new ≡ folder.old) }
     ensures still { job.now ≢ None → folder.new ≡ folder.old }
+    ensures asks { OnlyCalls (IsSaveOf PeersTemp Peers)
+        (F.calls folder.old) (F.calls folder.new) }
     ensures never_falls { F.faults folder.old ≤ F.faults folder.new }
 {
     if job.is_some() {
@@ -40,6 +47,7 @@ pub(crate) fn save<F: Folder, H: BuildHasher>(
 }
 
 /// Begins to save the tables in pieces, unless a save is open.
+#[tactic(auto, using(host_io::proofs::Asking::none))]
 pub(crate) fn begin<F: Folder, H: BuildHasher>(
     alloc: Global,
     folder: &mut F,
@@ -53,6 +61,8 @@ pub(crate) fn begin<F: Folder, H: BuildHasher>(
         (F.past folder.old) (F.past folder.new) (F.faults folder.old) (F.faults folder.new)) }
     ensures err { OnErr result ((folder.new ≡ folder.old) × (job.new ≡ job.old)) }
     ensures still { job.old ≢ None → folder.new ≡ folder.old }
+    ensures asks { OnlyCalls (IsSaveOf PeersTemp Peers)
+        (F.calls folder.old) (F.calls folder.new) }
     ensures never_falls { F.faults folder.old ≤ F.faults folder.new }
 {
     if job.is_some() {

@@ -4,6 +4,7 @@ use Rattle.std.specs.Int.{bit_at}
 use Rattle.slot_grid.specs.Slots.{Slots}
 use Rattle.slot_grid.specs.declared.sizes.TheConstants.{BUCKETS, SLOTS, ALL_SLOTS}
 
+-- The bit of a slot: 1 if it is occupied.
 abbrev pub bit_of : Bool → ℕ
 bit_of true = 1
 bit_of false = 0

@@ -1,3 +1,6 @@
+//! `Grid` reads and writes slots (`new_at`, `set_tried`, ..) and keeps a mask of occupied slots for
+//! each bucket.
+
 ghost use Rattle.std.specs.Prelude.{◌≡◌, ◌≢◌, ℕ, ◌<◌, ◌≤◌, ◌+◌, ◌*◌, ◌==◌, None, Some, IfOk, All, vec_len, vec_capacity, length, set, map, get_or, slice_index_or};
 ghost use Rattle.std.specs.Int.{bit_at};
 ghost use Rattle.slot_grid.specs.Inside.{slots_of, AreBlocks, AreStored, IsGrown, IsKept};
@@ -6,20 +9,11 @@ ghost use Rattle.slot_grid.specs.Slots.{renumbered};
 ghost use Rattle.slot_grid.specs.declared.sizes.TheConstants.{NEW_BUCKETS, TRIED_BUCKETS, SLOTS, BUCKETS, ALL_SLOTS};
 
 use crate::{ALL_SLOTS, BUCKETS, NEW_BUCKETS, SLOTS};
+use memory::Memory;
 use std::alloc::{AllocError, Global};
 use std::marker::Model;
 use std::sync::ledger::Ledger;
 use steps::Steps;
-
-/// Out of memory.
-#[derive(Clone, Copy, Debug, PartialEq, Eq)]
-pub struct Memory;
-
-impl From<AllocError> for Memory {
-    fn from(_: AllocError) -> Memory {
-        Memory
-    }
-}
 
 /// The slots of the new and of the tried table: which record, by its id, is in each. An id is
 /// any number. Only `make` takes memory.

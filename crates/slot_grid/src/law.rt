@@ -1,3 +1,5 @@
+//! The law that states the sizes of both tables as numbers.
+
 ghost use Rattle.std.specs.Prelude.{◌≡◌};
 ghost use Rattle.slot_grid.specs.declared.sizes.TheConstants.{ALL_SLOTS, BUCKETS, NEW_BUCKETS, NEW_SLOTS, SLOTS, TRIED_BUCKETS, TRIED_SLOTS};
 

@@ -1,3 +1,6 @@
+//! The number of buckets and slots of each table: `NEW_BUCKETS`, `TRIED_BUCKETS`, `SLOTS` and
+//! `ALL_SLOTS`.
+
 /// The buckets of the new table (`ADDRMAN_NEW_BUCKET_COUNT` in addrman_impl.h of Bitcoin Core).
 pub const NEW_BUCKETS: u16 = 1024;
 /// The buckets of the tried table (`ADDRMAN_TRIED_BUCKET_COUNT`).

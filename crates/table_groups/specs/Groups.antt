@@ -58,11 +58,13 @@ unfoldable pub groups_in : View → List Counted
 groups_in view =
     in_order (map (counted_of view) (once (map (counted_group view.places) view.records)))
 
+-- A group with its first address and its numbers.
 abbrev pub row_of : View → Counted → Row
 row_of view c = record {
   first = first_of view c.group.items;
   numbers = numbers_of view c.group.items;
 }
 
+-- All groups with their numbers, the one with the most slots first.
 unfoldable pub rows_of : View → List Row
 rows_of view = map (row_of view) (groups_in view)

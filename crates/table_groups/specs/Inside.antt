@@ -18,13 +18,16 @@ use Rattle.table_groups.specs.View.{View}
 
 -- RECORDS
 
+-- The numbers of a group without records.
 abbrev pub no_records : RecordNumbers
 no_records = record { first = None; new = 0; tried = 0 }
 
+-- The first address, or this one if there is none.
 abbrev pub first_or : Option Address → Address → Option Address
 first_or None a = Some a
 first_or (Some first) a = Some first
 
+-- The numbers of a group with another record.
 abbrev pub with_record : RecordNumbers → Rec → RecordNumbers
 with_record n r = record {
   first = first_or n.first (counted_address r);
@@ -32,9 +35,11 @@ with_record n r = record {
   tried = if is_tried r then n.tried + 1 else n.tried;
 }
 
+-- Each record, with the group that it counts for.
 abbrev pub record_visits : Places → List Rec → List (List ℕ × Rec)
 record_visits places recs = map (λ r. (counted_group places r, r)) recs
 
+-- The groups of some records, each with its numbers.
 abbrev pub records_by : Places → List Rec → List (List ℕ × RecordNumbers)
 records_by places recs = tally_of no_records with_record (record_visits places recs)
 
@@ -66,6 +71,7 @@ counted_in records slots g = record {
   slots = (value_in no_slots slots g).slots + (value_in no_records records g).tried;
 }
 
+-- The row of a group, from the numbers of its records and of its slots.
 abbrev pub row_in : List (List ℕ × RecordNumbers) → List (List ℕ × SlotNumbers) → List ℕ → Row
 row_in records slots g = record {
   first = (value_in no_records records g).first;
@@ -86,6 +92,7 @@ counted_source_in slots g = record {
   slots = (value_in no_slots slots g).slots + (value_in no_slots slots g).tried;
 }
 
+-- The source of a group, from the numbers of its slots.
 abbrev pub source_in : List (List ℕ × SlotNumbers) → List ℕ → Source
 source_in slots g = record {
   group = record { items = g };

@@ -1,4 +1,4 @@
--- How people write the group of an address.
+-- How people write the group of an address. IPv6 is written by RFC 5952, base 32 by RFC 4648.
 use Rattle.std.specs.Prelude.{ℕ, ◌+◌, ◌*◌, ◌/◌, ◌^◌, ◌==◌, nat_lt, List, [], ◌∷◌, ◌++◌, take, codes, decimal, slice_index, unwrap_or, if◌then◌else◌}
 use Rattle.std.specs.Int.{w128, from_be_bytes, to_be_bytes}
 use Rattle.hex.specs.Hex.{encode_lower}
@@ -25,11 +25,13 @@ letter digit = if nat_lt digit 26 then 97 + digit else 24 + digit
 abbrev pub letters_text : ℕ → List ℕ
 letters_text byte = letter (byte / 16 * 2) ∷ (codes " or " ++ (letter (byte / 16 * 2 + 1) ∷ []))
 
+-- A group of IPv4: its /16.
 abbrev pub ipv4_name : List ℕ → List ℕ
 ipv4_name bytes =
     decimal (slice_index bytes 0)
     ++ (codes "." ++ (decimal (slice_index bytes 1) ++ codes ".0.0/16"))
 
+-- A group of IPv6: its /32, or its /36 in Hurricane Electric's network.
 abbrev pub ipv6_name : Address → List ℕ
 ipv6_name a =
     if in_range he_net a.bytes then prefix_text a.bytes (2 ^ 92) 36

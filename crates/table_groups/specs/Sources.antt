@@ -44,6 +44,7 @@ source_of view c = record {
   buckets = new_buckets (is_of view.places c.group.items) view;
 }
 
+-- The groups of the sources with their numbers, the one with the most slots first.
 unfoldable pub sources_of : View → List Source
 sources_of view =
     map (source_of view) (in_order (map (counted_source view) (once (slot_groups view))))

@@ -17,6 +17,7 @@ once groups = fold with_group [] groups
 abbrev pub by_bytes : {V : Type 0} → List (ArrayVec ℕ × V) → List (List ℕ × V)
 by_bytes es = map (λ e. (e.0.items, e.1)) es
 
+-- The groups of a tally.
 abbrev pub groups_of : {V : Type 0} → List (List ℕ × V) → List (List ℕ)
 groups_of es = map (λ e. e.0) es
 
@@ -29,5 +30,6 @@ module _ {V E : Type 0} (none : V) (after : V → E → V) where
   abbrev pub noted : List (List ℕ × V) → List ℕ × E → List (List ℕ × V)
   noted es visit = insert_entry bytes_eq es visit.0 (after (value_in none es visit.0) visit.1)
 
+  -- The groups of some visits, each with the value that its visits make.
   abbrev pub tally_of : List (List ℕ × E) → List (List ℕ × V)
   tally_of visits = fold noted [] visits

@@ -1,5 +1,7 @@
 -- What pictures and counts are made from: the records of both tables, and the slots that they are
--- in. It may be the state of a node's tables, or what a text says of their slots.
+-- in. It may be the state of a node's tables, or what a text says of their slots. The slots are
+-- functions, so that nothing is copied and the view of a state computes. Groups depend on its asmap
+-- only, and not on a key.
 use Rattle.std.specs.Prelude.{ℕ, ◌&&◌, not, List, Bool, true, false, Option, count_by}
 use Rattle.peer_rec.specs.Rec.{is_tried}
 use Rattle.peer_rec.specs.declared.rec.Rec.{Rec}
@@ -29,9 +31,10 @@ abbrev pub occupant_at : View → Bool → ℕ → ℕ → Option Rec
 occupant_at view true bucket slot = view.new bucket slot
 occupant_at view false bucket slot = view.tried bucket slot
 
--- how many records of the new table, and of the tried table, are of networks of a set
+-- The number of records of the new table that are of networks of a set.
 abbrev pub wanted_new : View → List ℕ → ℕ
 wanted_new view nets = count_by (λ r. not (is_tried r) && is_wanted nets r) view.records
 
+-- The number of records of the tried table that are of networks of a set.
 abbrev pub wanted_tried : View → List ℕ → ℕ
 wanted_tried view nets = count_by (λ r. is_tried r && is_wanted nets r) view.records

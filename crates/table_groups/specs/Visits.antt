@@ -5,6 +5,7 @@ use Rattle.slot_grid.specs.declared.sizes.TheConstants.{NEW_SLOTS, SLOTS}
 use Rattle.table_groups.specs.Tally.{value_in}
 use Rattle.table_groups.specs.declared.group_slots.SlotNumbers.{SlotNumbers}
 
+-- The numbers of a group without slots.
 abbrev pub no_slots : SlotNumbers
 no_slots = record { slots = 0; buckets = 0; tried = 0; last = None }
 

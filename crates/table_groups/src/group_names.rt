@@ -1,3 +1,5 @@
+//! `name_of`: a group as people write it, which is an AS, a prefix, or the first letters.
+
 ghost use Rattle.std.specs.Prelude.{◌≡◌, ◌<◌, ◌≤◌, ◌++◌, [], length, take, codes, decimal, slice_index, unwrap_or, IfOk, OnOk};
 ghost use Rattle.std.specs.Int.{from_be_bytes};
 ghost use Rattle.hex.specs.Hex.{encode_lower};

@@ -1,3 +1,6 @@
+//! `RecordNumbers` and `tally_records`: the number of records of each group, in one pass over the
+//! records.
+
 ghost use Rattle.std.specs.Prelude.{◌≡◌, ◌<◌, ◌≤◌, ◌-◌, ◌^◌, IfOk, OnOk, length};
 ghost use Rattle.table_groups.specs.Groups.{counted_address, counted_group};
 ghost use Rattle.table_groups.specs.Inside.{first_or, AreFewRecords, no_records, records_by, with_record};

@@ -1,3 +1,6 @@
+//! `SlotNumbers` and `tally_slots`: the number of slots and buckets of each group, in one pass over
+//! the slots.
+
 ghost use Rattle.std.specs.Prelude.{◌≡◌, ◌<◌, ◌≤◌, ◌+◌, ◌-◌, ◌^◌, IfOk, OnOk, true, fold, if◌then◌else◌, is_some, option_map};
 ghost use Rattle.slot_grid.specs.declared.sizes.TheConstants.{NEW_BUCKETS, NEW_SLOTS, SLOTS};
 ghost use Rattle.table_groups.specs.Inside.{slots_by};

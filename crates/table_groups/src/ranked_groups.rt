@@ -1,3 +1,5 @@
+//! `Group`, `Row`, `Numbers` and `rows_of`: all groups with their numbers, most slots first.
+
 ghost use Rattle.std.specs.Prelude.{◌≡◌, ◌≤◌, IfOk, length, map};
 ghost use Rattle.table_groups.specs.Order.{in_order, rank_cmp};
 ghost use Rattle.indexmap.specs.IndexMap.{keys};

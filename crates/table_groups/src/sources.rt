@@ -1,3 +1,5 @@
+//! `Source` and `sources_of`: the same numbers for the sources, used by pictures.
+
 ghost use Rattle.std.specs.Prelude.{◌≡◌, IfOk, map};
 ghost use Rattle.indexmap.specs.IndexMap.{keys};
 ghost use Rattle.table_groups.specs.Inside.{counted_source_in, source_in};

@@ -1,3 +1,5 @@
+//! The trait `TableView`: the records and slots of tables or of a listing.
+
 ghost use Rattle.std.specs.Prelude.{◌≡◌, ◌≤◌, ◌<◌, IfOk, count_by, not, option_map};
 ghost use Rattle.peer_rec.specs.Rec.{is_tried};
 ghost use Rattle.peer_rec.specs.declared.snapshot.TheConstants.{MAX_NEW, MAX_TRIED};

@@ -1,3 +1,5 @@
+//! `Tally`, a map from groups to values; and `Lent`, a maker of hashers that is borrowed.
+
 ghost use Rattle.std.specs.Prelude.{◌≡◌, bytes_eq, OnOk};
 ghost use Rattle.indexmap.specs.IndexMap.{insert_entry};
 ghost use Rattle.table_groups.specs.Tally.{by_bytes, value_in};

@@ -4,12 +4,12 @@ use Rattle.std.proofs.Common.{◌≡◌, ℕ, ◌^◌, Bool, true, false, ◌&&�
 use Rattle.std.specs.List.{range_with_len}
 use Rattle.net_addr.specs.NetSet.{all}
 use Rattle.net_addr.specs.Ranges.{in_range}
-use Rattle.peer_rec.specs.Rec.{buckets_of, is_terrible}
+use Rattle.peer_rec.specs.Rec.{buckets_of, is_terrible, next_factor}
 use Rattle.peer_rec.specs.declared.answers.Picked.TheVariants.{One}
 use Rattle.peer_rec.specs.declared.place.Place.TheVariants.{New, Tried}
 use Rattle.peer_rec.specs.declared.rec.Rec.{Rec}
 use Rattle.table_machine.specs.Entries.{enter_occupied, with_last, with_record}
-use Rattle.table_machine.specs.Picks.{candidates, first_accepted, first_factor, is_accepted, is_wanted, next_factor}
+use Rattle.table_machine.specs.Picks.{candidates, first_accepted, first_factor, is_accepted, is_wanted}
 use Rattle.table_machine.specs.Restart.{restart}
 use Rattle.table_machine.specs.State.{State}
 use Rattle.table_machine.specs.Tried.{clear_new}

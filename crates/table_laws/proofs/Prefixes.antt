@@ -3,7 +3,8 @@ use Rattle.std.proofs.Common.{◌≡◌, ◌≢◌, ℕ, ◌%◌, List, [], ◌�
 use Rattle.peer_rec.specs.declared.answers.Picked.TheVariants.{One, Nothing, Exhausted}
 use Rattle.peer_rec.specs.declared.rec.Rec.{Rec}
 use Rattle.table_machine.specs.State.{State}
-use Rattle.table_machine.specs.Picks.{candidate, candidates, candidates_of, candidates_of_either, first_accepted, first_factor, is_accepted, next_factor, select, wanted_new, wanted_tried, with_candidate}
+use Rattle.peer_rec.specs.Rec.{next_factor}
+use Rattle.table_machine.specs.Picks.{candidate, candidates, candidates_of, candidates_of_either, first_accepted, first_factor, is_accepted, select, wanted_new, wanted_tried, with_candidate}
 
 -- what a longer list of candidates gives, if the shorter one gives a record
 abbrev IsSame : ℕ → ℕ → List (Rec × ℕ) → List (Rec × ℕ) → Type 0

@@ -4,10 +4,10 @@ use Rattle.std.specs.List.{range_with_len}
 use Rattle.std.proofs.lemmas.Bool.{false_from_ne_true}
 use Rattle.std.proofs.lemmas.Bool.Decides.{Decides-eqb}
 use Rattle.std.proofs.lemmas.Nat.{mod-mul-add}
-use Rattle.peer_rec.specs.Rec.{chance}
+use Rattle.peer_rec.specs.Rec.{chance, next_factor}
 use Rattle.peer_rec.specs.declared.answers.Picked.TheVariants.{One, Nothing}
 use Rattle.peer_rec.specs.declared.rec.Rec.{Rec}
-use Rattle.table_machine.specs.Picks.{bucket_count, candidate, candidates, candidates_of_either, first_accepted, first_candidate, first_factor, is_accepted, next_factor, select, wanted_new, wanted_tried, with_candidate}
+use Rattle.table_machine.specs.Picks.{bucket_count, candidate, candidates, candidates_of_either, first_accepted, first_candidate, first_factor, is_accepted, select, wanted_new, wanted_tried, with_candidate}
 use Rattle.table_machine.specs.State.{State}
 use Rattle.table_laws.proofs.Counts.{all_range, count_append, count_cons, count_no, range_split}
 

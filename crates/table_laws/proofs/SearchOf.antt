@@ -11,7 +11,8 @@ use Rattle.std.proofs.Math.Nat.{mod-eq_of_lt}
 use Rattle.net_addr.specs.Same.{same_peer, same_peer-Decides}
 use Rattle.peer_rec.specs.declared.answers.Picked.TheVariants.{One}
 use Rattle.peer_rec.specs.declared.rec.Rec.{Rec}
-use Rattle.table_machine.specs.Picks.{bucket_count, candidate, candidates, first_accepted, first_candidate, is_accepted, next_factor, with_candidate}
+use Rattle.peer_rec.specs.Rec.{next_factor}
+use Rattle.table_machine.specs.Picks.{bucket_count, candidate, candidates, first_accepted, first_candidate, is_accepted, with_candidate}
 use Rattle.table_machine.specs.Sound.{IsSound}
 use Rattle.table_machine.specs.State.{State}
 use Rattle.table_machine.proofs.Lists.{All-from_Contains}

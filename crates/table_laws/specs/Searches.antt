@@ -17,6 +17,7 @@ pub record Round : Type 0 where
   pub start : ℕ
   pub word : ℕ
 
+-- The round with these residues.
 abbrev pub round : ℕ → ℕ → ℕ → Round
 round bucket start word = record { bucket = bucket; start = start; word = word }
 
@@ -46,6 +47,7 @@ ends_at st in_new nets now factor peer rounds =
     is_pick_of peer
     (first_accepted now factor (candidates st in_new nets (words_of st in_new nets rounds)))
 
+-- 1 if true, and 0 if false.
 abbrev pub one_if : Bool → ℕ
 one_if b = cond b 1 0
 

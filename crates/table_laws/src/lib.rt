@@ -1,5 +1,8 @@
 //! What the definitions of the tables give, in the words of a node's author. There is no program
 //! here, only definitions and laws.
+//!
+//! What they give is counted, and is not a probability: how many of the residues that random words
+//! can have select a record. Whose records are meant is given by a test.
 #![tactic(auto)]
 
 mod losses;

@@ -1,3 +1,5 @@
+//! The law that picks of some records are bounded by the starts that lead to them.
+
 ghost use Rattle.std.specs.List.{range_with_len};
 ghost use Rattle.std.specs.Prelude.{ℕ, Bool, true, false, List, ◌≡◌, ◌≤◌, ◌*◌, ◌^◌, Contains, count_by, filter, length, sum_by};
 ghost use Rattle.table_laws.specs.Chances.{accepting_words, picking_words, words_for};
@@ -14,6 +16,13 @@ ghost use Rattle.table_machine.specs.State.{State};
 /// the starts that lead to their slots give. They have one slot of a bucket each at most, and eight
 /// buckets of the new table. And whatever else is in the tables, a record is selected from each of
 /// its own slots.
+///
+/// `least_new` and `least_tried`: at least as many triples select a record as it has slots in the
+/// table, times the residues that accept it. `gaps`: at most as many select one of n records as the
+/// starts that lead to their slots give, each with all 2^30 residues of the third word. They have
+/// at most n slots of a bucket (`slots`), so at most 8 n in 1024 of a round's triples in the new
+/// table and n in 256 in the tried one (`peers`). No law bounds by groups how many of a bucket's 64
+/// slots are theirs: a group has more addresses and ports than that.
 pub fn odds_are_bounded()
     ensures gaps { (st : State) (in_new : Bool) (nets : List ℕ) (now factor : ℕ)
         (test : Rec → Bool) → IsSound st →

@@ -1,3 +1,5 @@
+//! Laws that count rounds and picks: `gap`, and the residues that select a record.
+
 ghost use Rattle.std.specs.List.{range_with_len};
 ghost use Rattle.std.specs.Prelude.{List, Option, ℕ, ◌≡◌, Bool, ◌<◌, ◌*◌, true, false, Contains, find, filter, filter_map, count_by, sum_by};
 ghost use Rattle.table_laws.specs.Chances.{accepting_words, leading_slots, picking_words, words_for};
@@ -10,6 +12,8 @@ ghost use Rattle.table_machine.specs.Sound.{IsSound};
 ghost use Rattle.table_machine.specs.State.{State};
 
 /// Of the n slots that a round may begin at, exactly `gap` lead to the slot.
+///
+/// This holds for any n, and whatever is in the slots.
 pub fn rounds_are_counted()
     ensures { (at : ℕ → Option ℕ) (wanted picked : ℕ → Bool) (n slot : ℕ) → slot < n →
         holds wanted (at slot) ≡ true → holds picked (at slot) ≡ true →
@@ -22,6 +26,10 @@ pub fn rounds_are_counted()
 /// Of the triples of residues that the words of a round can have, so many select a record: for
 /// each bucket of the record, as many starts as lead to its slot, times the words that accept it.
 /// One of several records is selected by as many as all of them are together.
+///
+/// In `new` and `tried`, a round finds the record from its own slot and from the slots right before
+/// it, going round, that have no candidate. By `some`, anybody's share of a round's triples is the
+/// sum of these products over their records.
 pub fn picks_are_counted()
     ensures new { (st : State) (nets : List ℕ) (now factor : ℕ) (r : Rec) → IsSound st →
         Contains st.records r → is_wanted nets r ≡ true →

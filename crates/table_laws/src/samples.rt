@@ -1,3 +1,5 @@
+//! Laws: a sample is a fair shuffle of the eligible records.
+
 ghost use Rattle.std.specs.Prelude.{List, ℕ, ◌≡◌, length, ◌≤◌, take, IsPermutation};
 ghost use Rattle.table_laws.specs.Samples.{eligible_peers};
 ghost use Rattle.table_laws.specs.Shuffle.{AreDraws, IsOnce, draws_of, exchanged};
@@ -6,6 +8,10 @@ ghost use Rattle.table_machine.specs.State.{State};
 
 /// The exchanges of as many random words as a list has numbers are those of draws: one of n, one
 /// of n - 1, and so on. Each arrangement of the list comes from exactly one list of draws.
+///
+/// The first word counts modulo n, the next modulo n - 1, and so on (`words`). Each arrangement
+/// comes from some list of such residues (`some`) and from no other (`one`). A word modulo n has
+/// some residues from one word more than others, of about 2^64 / n.
 pub fn shuffles_are_fair()
     ensures words { (order words : List ℕ) → length words ≡ length order →
         AreDraws (length order) (draws_of (length order) words)
@@ -19,6 +25,8 @@ pub fn shuffles_are_fair()
 
 /// A sample is the first peers of the order as the words arrange it, of those whose records may be
 /// in a sample.
+///
+/// There have to be at least as many words as records.
 pub fn samples_are_shuffles()
     ensures { (st : State) (most percent : ℕ) (classes words : List ℕ) (now : ℕ) →
         length st.order ≤ length words →

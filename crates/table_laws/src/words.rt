@@ -1,3 +1,5 @@
+//! Laws: which residues of random words decide, and that later words do not count.
+
 ghost use Rattle.std.specs.List.{range_with_len};
 ghost use Rattle.std.specs.Prelude.{ℕ, Bool, List, ◌≡◌, ◌≢◌, ◌==◌, ◌<◌, ◌++◌, ◌*◌, ◌%◌, ◌^◌, count_by, map};
 ghost use Rattle.peer_rec.specs.declared.answers.Picked.TheVariants.{Exhausted};
@@ -8,6 +10,10 @@ ghost use Rattle.table_machine.specs.State.{State};
 
 /// A round depends on the residues of its three words only, and a pick on the low 30 bits of its
 /// words. Of the words below a multiple of n, equally many have each residue modulo n.
+///
+/// Three words with the same residues do the same in a round (`round`): modulo 1024 for a bucket of
+/// the new table or 256 of the tried one, 64 for a slot and 2^30 for the acceptance. Each residue
+/// of a round comes from equally many of the 2^64 words (`even`).
 pub fn residues_decide()
     ensures round { (st : State) (in_new : Bool) (nets : List ℕ) (r : Rec) (now factor : ℕ)
         (bucket start word other_bucket other_start other_word : ℕ) →
@@ -23,6 +29,8 @@ pub fn residues_decide()
 {}
 
 /// A pick that ends keeps its answer if more random words follow, so it depends on none of them.
+///
+/// So a caller who has too few words may call again with the same ones and more.
 pub fn first_words_decide()
     ensures { (st : State) (new_only : Bool) (nets words more : List ℕ) (now : ℕ) →
         select st new_only nets words now ≢ Exhausted →

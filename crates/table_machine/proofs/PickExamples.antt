@@ -8,12 +8,12 @@ use Rattle.net_addr.specs.OldForm.{address}
 use Rattle.net_addr.specs.Ranges.{in_range}
 use Rattle.net_addr.specs.declared.net.Net.{Net}
 use Rattle.net_addr.specs.declared.net.Net.TheVariants.{Cjdns, Ipv4, Onion, Unroutable}
-use Rattle.peer_rec.specs.Rec.{chance, network}
+use Rattle.peer_rec.specs.Rec.{chance, network, next_factor}
 use Rattle.peer_rec.specs.declared.answers.Picked.TheVariants.{One, Nothing, Exhausted}
 use Rattle.peer_rec.specs.declared.rec.Rec.{Rec}
 use Rattle.peer_rec.specs.declared.place.Place.TheVariants.{New, Tried}
 use Rattle.table_machine.specs.State.{State}
-use Rattle.table_machine.specs.Picks.{first_accepted, first_factor, first_candidate, is_accepted, is_wanted, next_factor, occupant_at, sample, sample_limit, select, slots_from}
+use Rattle.table_machine.specs.Picks.{first_accepted, first_factor, first_candidate, is_accepted, is_wanted, occupant_at, sample, sample_limit, select, slots_from}
 use Rattle.table_machine.proofs.ExampleStates.{failed, now, peer, state}
 
 -- the set of one network

@@ -3,10 +3,10 @@
 use Rattle.std.proofs.Common.{◌≡◌, ℕ, zero, suc, ◌+◌, ◌*◌, ◌/◌, ◌%◌, ◌<◌, ◌≤◌, ◌^◌, min, nat_lt, Bool, true, false, List, [], ◌∷◌, length, refl, sym, subst, arith, ⊎_elim, if◌then◌else◌}
 use Rattle.std.proofs.lemmas.Bool.{both_ways, lt-ltb, cases_order}
 use Rattle.std.proofs.lemmas.Nat.{mod_below, mul-le}
-use Rattle.peer_rec.specs.Rec.{chance}
+use Rattle.peer_rec.specs.Rec.{chance, next_factor}
 use Rattle.peer_rec.specs.declared.answers.Picked.TheVariants.{One, Exhausted}
 use Rattle.peer_rec.specs.declared.rec.Rec.{Rec}
-use Rattle.table_machine.specs.Picks.{first_accepted, first_factor, is_accepted, next_factor}
+use Rattle.table_machine.specs.Picks.{first_accepted, first_factor, is_accepted}
 
 -- the chance after some tries of which none was recent, in parts of 2^30
 abbrev chance_after : ℕ → ℕ

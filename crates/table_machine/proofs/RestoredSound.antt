@@ -159,7 +159,7 @@ module _ (n : ℕ) (earlier : List FileRec) (st : State) (r : FileRec) (rs : Lis
         few = let low = so_far.few in omega (arith, long);
       }
 
-all-new : (n : ℕ) (earlier : List FileRec) (st : State) (rs more : List FileRec) → Progress n earlier st → AllPairs NotBefore (earlier ++ rs ++ more) → All IsFileRec rs
+pub all-new : (n : ℕ) (earlier : List FileRec) (st : State) (rs more : List FileRec) → Progress n earlier st → AllPairs NotBefore (earlier ++ rs ++ more) → All IsFileRec rs
     → length earlier + length rs ≤ n → n < 2 ^ 63 → Progress n (earlier ++ rs) (with_all_new st rs)
 all-new n earlier st [] more so_far apart fits below few = subst (λ l. Progress n l st) (sym (append-nil earlier)) so_far
 all-new n earlier st (r ∷ rs) more so_far apart fits below few =
@@ -169,7 +169,7 @@ all-new n earlier st (r ∷ rs) more so_far apart fits below few =
     (all-new n (earlier ++ r ∷ []) (with_new st r) rs more step (subst (λ l. AllPairs NotBefore (l ++ more)) (sym whole) apart) (All-tail IsFileRec r rs fits)
     (omega (arith, length-append earlier (r ∷ []))) few)
 
-all-tried : (n : ℕ) (earlier : List FileRec) (st : State) (rs : List FileRec) → Progress n earlier st → AllPairs NotBefore (earlier ++ rs) → All IsFileRec rs
+pub all-tried : (n : ℕ) (earlier : List FileRec) (st : State) (rs : List FileRec) → Progress n earlier st → AllPairs NotBefore (earlier ++ rs) → All IsFileRec rs
     → length earlier + length rs < 2 ^ 63 → Progress n (earlier ++ rs) (with_all_tried st rs)
 all-tried n earlier st [] so_far apart fits few = subst (λ l. Progress n l st) (sym (append-nil earlier)) so_far
 all-tried n earlier st (r ∷ rs) so_far apart fits few =
@@ -243,7 +243,7 @@ drop-sound n st (k ∷ ks) fill left = by (by_number st k) refl (λ s. drop-soun
         inl (Contains-cases k ks r.number waits)) inr (left r c))
     by (Some q) found more = let h = number_found st.records k q found in dropped q h.0 h.1 (length (buckets_of q) == 0) refl more
 
-empty-filling : (n : ℕ) (places : Places) → IsPlaces places → IsFilling n (empty_state places)
+pub empty-filling : (n : ℕ) (places : Places) → IsPlaces places → IsFilling n (empty_state places)
 empty-filling n places is = record {
   order = IsPermutation-refl [];
   rising = λ k within. absurd (omega arith);

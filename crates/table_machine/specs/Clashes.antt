@@ -54,6 +54,7 @@ one_more Erased r = record r { erased = 1 + r.erased }
 one_more Kept r = record r { kept = 1 + r.kept }
 one_more Moved r = record r { moved = 1 + r.moved }
 
+-- An answer and a state, with another collision of this fate counted.
 abbrev pub with_fate : Fate → After Resolved → After Resolved
 with_fate fate rest = outcome (one_more fate rest.answer) rest.state
 
@@ -74,6 +75,8 @@ abbrev pub pick_occupant : State → Option Rec → After (Option (Peer × ℕ))
 pick_occupant st None = outcome None st
 pick_occupant st (Some occupant) = outcome (Some (occupant.peer, occupant.last_try)) st
 
+-- The occupant that the newcomer of a collision waits for. A collision whose newcomer was deleted
+-- is dropped.
 abbrev pub pick_newcomer : State → ℕ → Option Rec → After (Option (Peer × ℕ))
 pick_newcomer st number None = outcome None (erase_clash st number)
 pick_newcomer st number (Some newcomer) = pick_occupant st (tried_occupant st newcomer.peer)

@@ -1,5 +1,5 @@
--- What an entry of a message does to the tables (`AddrManImpl::AddSingle` and `Add_` in addrman.cpp
--- of Bitcoin Core).
+-- What an entry of a message does to the tables (`AddrManImpl::AddSingle`, `Add_`, `Create`,
+-- `ClearNew` and `Delete` in addrman.cpp of Bitcoin Core).
 use Rattle.std.specs.Prelude.{ℕ, ◌+◌, ◌-◌, ◌%◌, ◌^◌, List, [], ◌∷◌, ◌++◌, length, map, filter, Bool, true, false, ◌&&◌, ◌||◌, not, ◌==◌, nat_lt, nat_le, Option, Some, None, bit_or, if◌then◌else◌}
 use Rattle.net_addr.specs.Address.{Address}
 use Rattle.net_addr.specs.Same.{same_address}
@@ -14,10 +14,11 @@ use Rattle.peer_rec.specs.declared.place.Place.TheVariants.{New}
 use Rattle.peer_rec.specs.declared.buckets.TheConstants.{MAX_LISTS}
 use Rattle.table_machine.specs.State.{State, find_peer, new_rec_at, After, outcome}
 
--- whether an entry got a slot, or whether a peer is known
+-- The entry got no slot, or the peer is not known.
 abbrev pub no : State → After Bool
 no st = outcome false st
 
+-- The entry got a slot, or the peer is known.
 abbrev pub yes : State → After Bool
 yes st = outcome true st
 

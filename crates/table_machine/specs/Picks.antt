@@ -5,7 +5,7 @@ use Rattle.std.specs.List.{range_with_len}
 use Rattle.net_addr.specs.NetSet.{has}
 use Rattle.net_addr.specs.Ranges.{net_class}
 use Rattle.net_addr.specs.declared.peer.Peer.{Peer}
-use Rattle.peer_rec.specs.Rec.{chance, is_terrible, is_tried, network}
+use Rattle.peer_rec.specs.Rec.{chance, is_terrible, is_tried, network, next_factor}
 use Rattle.peer_rec.specs.declared.answers.Picked.{Picked}
 use Rattle.peer_rec.specs.declared.answers.Picked.TheVariants.{One, Nothing, Exhausted}
 use Rattle.peer_rec.specs.declared.rec.Rec.{Rec}
@@ -16,10 +16,11 @@ use Rattle.table_machine.specs.State.{State, by_number, new_rec_at, tried_rec_at
 abbrev pub is_wanted : List ℕ → Rec → Bool
 is_wanted nets r = has nets (network r)
 
--- how many records of the new table, and of the tried table, are wanted
+-- The number of records of the new table that are eligible: of a network in the set.
 abbrev pub wanted_new : State → List ℕ → ℕ
 wanted_new st nets = count_by (λ r. not (is_tried r) && is_wanted nets r) st.records
 
+-- The number of records of the tried table that are eligible.
 abbrev pub wanted_tried : State → List ℕ → ℕ
 wanted_tried st nets = count_by (λ r. is_tried r && is_wanted nets r) st.records
 
@@ -28,6 +29,7 @@ abbrev pub occupant_at : State → Bool → ℕ → ℕ → Option Rec
 occupant_at st true bucket slot = new_rec_at st bucket slot
 occupant_at st false bucket slot = tried_rec_at st bucket slot
 
+-- The number of buckets of the new table (`true`) or of the tried table (`false`).
 abbrev pub bucket_count : Bool → ℕ
 bucket_count true = NEW_BUCKETS
 bucket_count false = TRIED_BUCKETS
@@ -80,10 +82,6 @@ candidates_of st new_only nets words =
 -- three in parts of 2^30
 abbrev pub is_accepted : Rec → ℕ → ℕ → ℕ → Bool
 is_accepted r now factor word = nat_lt ((word % 2 ^ 30) * 2 ^ 30) (chance r now * factor)
-
--- the factor grows by a fifth after each record that is refused
-abbrev pub next_factor : ℕ → ℕ
-next_factor factor = min (factor + factor / 5) (2 ^ 60)
 
 -- the factor that a search begins with
 abbrev pub first_factor : ℕ

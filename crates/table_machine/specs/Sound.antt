@@ -1,4 +1,5 @@
--- Which states of the tables are sound: what holds before and after each step.
+-- Which states of the tables are sound: what holds before and after each step. Bitcoin Core checks
+-- most of this in `AddrManImpl::CheckAddrman` in addrman.cpp.
 use Rattle.std.specs.Prelude.{◌≡◌, ◌≢◌, ℕ, ◌<◌, ◌≤◌, ◌^◌, Bool, true, List, map, length, All, AllPairs, Contains, IsSome, IfSome, IsPermutation}
 use Rattle.std.specs.List.Sorted.{IsStrictlyIncreasing}
 use Rattle.net_addr.specs.Ranges.{is_valid}

@@ -25,6 +25,7 @@ pub record After (A : Type 0) : Type 0 where
   pub answer : A
   pub state : State
 
+-- This answer, and this state after it.
 abbrev pub outcome : {A : Type 0} → A → State → After A
 outcome answer st = record { answer = answer; state = st }
 

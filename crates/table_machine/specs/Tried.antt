@@ -58,6 +58,8 @@ good_known st r testing =
     else if testing && is_some (tried_occupant st r.peer) then outcome Clash (wait st r.number)
     else outcome Moved (move_to_tried st r)
 
+-- The peer of a record was reached, if there is a record: its times are updated before anything
+-- else (`Good_`).
 abbrev pub good_by : Option Rec → State → ℕ → Bool → After Good
 good_by None st now testing = outcome Unknown st
 good_by (Some r) st now testing =
@@ -82,6 +84,7 @@ after_try last_good now count r =
     then record r { last_try = now; last_count = now; attempts = min (r.attempts + 1) MAX_ATTEMPTS }
     else record r { last_try = now }
 
+-- A try of a peer; the answer is whether it is known (`Attempt_`).
 abbrev pub attempt : State → ℕ → Peer → Bool → After Bool
 attempt st now peer count = mark (after_try st.last_good now count) st (find_peer st peer)
 
@@ -90,6 +93,7 @@ attempt st now peer count = mark (after_try st.last_good now count) st (find_pee
 abbrev pub still_connected : ℕ → Rec → Rec
 still_connected now r = if nat_lt (r.time + 1200) now then record r { time = now } else r
 
+-- A connection with a peer; the answer is whether it is known (`Connected_`).
 abbrev pub connected : State → ℕ → Peer → After Bool
 connected st now peer = mark (still_connected now) st (find_peer st peer)
 
@@ -97,5 +101,6 @@ connected st now peer = mark (still_connected now) st (find_peer st peer)
 abbrev pub with_services : ℕ → Rec → Rec
 with_services services r = record r { services = services }
 
+-- New services of a peer; the answer is whether it is known (`SetServices_`).
 abbrev pub set_services : State → Peer → ℕ → After Bool
 set_services st peer services = mark (with_services services) st (find_peer st peer)

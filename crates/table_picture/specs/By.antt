@@ -27,6 +27,7 @@ age_class newest time =
     else if nat_lt newest (time + 2419200) then 3
     else 4
 
+-- The name of an age.
 abbrev pub age_name : ℕ → List ℕ
 age_name class =
     if class == 0 then codes "under a day"
@@ -54,6 +55,7 @@ name_by Source newest places r = name_of places r.source
 name_by Group newest places r = name_of places r.peer.addr
 name_by Age newest places r = age_name (age_class newest r.time)
 
+-- The record with another source: an address of the group that its colour shows.
 abbrev pub recoloured : By → ℕ → Rec → Rec
 recoloured by newest r = record r { source = address_by by newest r }
 
@@ -80,5 +82,6 @@ with_slots view slots = record {
   tried = λ bucket slot. unwrap_or (slice_get slots (NEW_SLOTS + (SLOTS * bucket + slot))) None;
 }
 
+-- The tables with such records.
 abbrev pub view_by : By → ℕ → View → View
 view_by by newest view = with_slots view (slots_by by newest view)

@@ -29,6 +29,7 @@ date_in year month day = record {
   day = day - (153 * month + 2) / 5 + 1;
 }
 
+-- The date of a day of a year that begins in March.
 abbrev pub date_by : ℕ → ℕ → Date
 date_by year day = date_in year (month_of_year day) day
 

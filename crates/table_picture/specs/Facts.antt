@@ -12,9 +12,11 @@ use Rattle.table_picture.specs.Date.{date_of, date_text}
 abbrev pub newest_day : List Rec → ℕ
 newest_day recs = newest_in recs / 86400
 
+-- The date of the newest record.
 abbrev pub newest_date : List Rec → List ℕ
 newest_date recs = codes ", newest time " ++ date_text (date_of (newest_day recs))
 
+-- The date of the newest record, or that there are no records.
 abbrev pub newest_text : List Rec → List ℕ
 newest_text recs = if length recs == 0 then codes ", no records" else newest_date recs
 
@@ -25,9 +27,11 @@ asmap_text sum =
     if bytes_eq sum (replicate 32 0) then codes ", no asmap"
     else codes ", asmap " ++ encode_lower (take 4 sum)
 
+-- The chain, the date of the newest record, and the asmap.
 unfoldable pub facts_text : List ℕ → List Rec → Places → List ℕ
 facts_text chain recs places =
     codes "chain " ++ (chain ++ (newest_text recs ++ asmap_text (sum_of places)))
 
+-- The same of a view.
 abbrev pub facts_of : List ℕ → View → List ℕ
 facts_of chain view = facts_text chain view.records view.places

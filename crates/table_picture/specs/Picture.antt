@@ -17,6 +17,7 @@ use Rattle.table_picture.specs.Marks.{marks_by}
 use Rattle.table_picture.specs.Slots.{rec_set, rec_spread, slot_marks, spread_in}
 use Rattle.table_groups.specs.View.{View}
 
+-- The name of the colour of a record; empty if there is none.
 abbrev pub rec_name : By → ℕ → Places → Option Rec → List ℕ
 rec_name by newest places None = []
 rec_name by newest places (Some r) = name_by by newest places r
@@ -26,6 +27,7 @@ abbrev pub mark_name : By → ℕ → View → List ℕ → ℕ → List ℕ
 mark_name by newest view marks index =
     rec_name by newest view.places (rec_in view (position_or_len (λ m. m == index + 1) marks))
 
+-- The names of the listed groups, by their marks.
 abbrev pub names_in : By → ℕ → View → List ℕ → ℕ → List (List ℕ)
 names_in by newest view marks count =
     map (mark_name by newest view marks) (range_with_len 0 count)
@@ -62,6 +64,7 @@ picture_with by facts newest view other =
     picture_from by facts other
     (names_in by newest view (marks_of other) (length (listed_of other)))
 
+-- The picture of a view, by what its colours show.
 abbrev pub picture_by : By → List ℕ → View → List ℕ
 picture_by by chain view =
     picture_with by (facts_of chain view) (newest_in view.records) view

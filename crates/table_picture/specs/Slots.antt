@@ -21,6 +21,7 @@ slot_marks mark view = map (λ slot. mark (rec_in view slot)) (range_with_len 0 
 abbrev pub spread_mark : List Source → List ℕ → ℕ
 spread_mark spread g = if list_any (λ s. bytes_eq g s.group.items) spread then 8 else 0
 
+-- The mark of a slot by its record: 8 if the group of its source spreads, and 0 for a free slot.
 abbrev pub rec_spread : Places → List Source → Option Rec → ℕ
 rec_spread places spread None = 0
 rec_spread places spread (Some r) = spread_mark spread (group places r.source)

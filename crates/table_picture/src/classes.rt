@@ -1,3 +1,5 @@
+//! Colours by network, group or age: the class of a record, and its name.
+
 ghost use Rattle.std.specs.Prelude.{◌≡◌, ◌<◌, ◌^◌, ◌≤◌, IfOk};
 ghost use Rattle.table_picture.specs.By.{address_by, age_class, age_name, class_address, name_by, newest_in};
 

@@ -1,3 +1,5 @@
+//! `date_of` and `put_date`: the date of a day, such as `2009-01-03`.
+
 ghost use Rattle.std.specs.Prelude.{◌≡◌, ◌<◌, ◌≤◌, ◌^◌, ◌++◌, OnOk};
 ghost use Rattle.table_picture.specs.Date.{date_by, date_from, date_in, date_of, date_text, day_of_year, month_of_year, two_digits, year_of_cycle};
 

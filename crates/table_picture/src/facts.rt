@@ -1,3 +1,5 @@
+//! `facts_of`: which tables are drawn, by chain, date of the newest record and asmap.
+
 ghost use Rattle.std.specs.Prelude.{◌≡◌, ◌++◌, IfOk, OnOk, length};
 ghost use Rattle.table_picture.specs.Facts.{asmap_text, facts_text, newest_date, newest_day, newest_text};
 

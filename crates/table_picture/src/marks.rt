@@ -1,3 +1,5 @@
+//! `marks_by`: the mark of each slot, by rising bucket.
+
 ghost use Rattle.std.specs.Prelude.{◌≡◌, ◌<◌, ◌≤◌, ◌++◌, length, IfOk, OnOk, option_map};
 ghost use Rattle.slot_grid.specs.declared.sizes.TheConstants.{ALL_SLOTS};
 ghost use Rattle.table_machine.specs.Picks.{bucket_count};

@@ -1,3 +1,5 @@
+//! `spread_marks` and `set_marks`: the marks of groups that spread, and those of sets of addresses.
+
 ghost use Rattle.std.specs.Prelude.{◌≡◌, ◌≤◌, List, ℕ, length, IfOk, OnOk, option_map};
 ghost use Rattle.slot_grid.specs.declared.sizes.TheConstants.{ALL_SLOTS};
 ghost use Rattle.table_groups.specs.Tally.{by_bytes, value_in};

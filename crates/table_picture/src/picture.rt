@@ -1,3 +1,5 @@
+//! `put_picture` and `put_picture_by`: from a `TableView` to the text of `picture_text`.
+
 ghost use Rattle.std.specs.Prelude.{◌≡◌, ◌≤◌, ◌==◌, ◌++◌, length, map, IfOk, OnOk, option_map};
 ghost use Rattle.std.specs.List.{position_or_len};
 ghost use Rattle.table_picture.specs.By.{newest_in, view_by};

@@ -1,3 +1,5 @@
+//! `Recoloured`: tables that have another address instead of each source.
+
 ghost use Rattle.std.specs.Prelude.{◌≡◌, ◌<◌, ◌+◌, ◌*◌, IfOk, option_map, slice_get, unwrap_or, None};
 ghost use Rattle.slot_grid.specs.declared.sizes.TheConstants.{NEW_SLOTS, SLOTS};
 ghost use Rattle.table_picture.specs.By.{rec_in, recoloured, view_by, with_slots};

@@ -1,3 +1,5 @@
+//! `put_picture_of_sets`: the picture whose colours show sets of addresses, with their texts.
+
 ghost use Rattle.std.specs.Prelude.{◌≡◌, ◌≤◌, ◌++◌, All, length, map, IfOk, OnOk};
 ghost use Rattle.risk_parts.specs.Sets.{IsProperSet, set_text};
 ghost use Rattle.table_picture.specs.Picture.{picture_of_sets};

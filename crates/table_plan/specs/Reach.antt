@@ -11,6 +11,7 @@ pub record IsKept (places : Places) (group : List ℕ) (choice bucket : ℕ) : T
   pub value : bucket ≡ source_bucket places group choice
   pub below : bucket < NEW_BUCKETS
 
+-- All buckets of a group that are kept are its own.
 abbrev pub IsReach : Places → Reach → Type 0
 IsReach places r =
     (choice bucket : ℕ) → choice < SOURCE_BUCKETS →

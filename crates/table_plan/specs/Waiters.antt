@@ -7,5 +7,6 @@ abbrev pub id_without : ℕ → Option ℕ → Option ℕ
 id_without gone None = None
 id_without gone (Some id) = if id == gone then None else Some id
 
+-- A collision after the record of an id is deleted.
 abbrev pub forget : ℕ → Waiter → Waiter
 forget gone w = record { number = w.number; id = id_without gone w.id }

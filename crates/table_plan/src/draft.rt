@@ -1,3 +1,5 @@
+//! `Draft`: a record of a file before it is made, with the buckets that it is given.
+
 ghost use Rattle.std.specs.Prelude.{◌≡◌};
 ghost use Rattle.table_machine.specs.Restoring.{record_of};
 

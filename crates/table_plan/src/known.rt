@@ -1,3 +1,6 @@
+//! One record after an entry, a success or an attempt: `refresh`, `after_success`, `after_try`,
+//! `stays` and `is_drawn`.
+
 ghost use Rattle.std.specs.Prelude.{◌≡◌, ◌≤◌, ◌%◌, ◌^◌, ◌==◌, ◌||◌, nat_le, length, ◌+◌, min, slice_get};
 ghost use Rattle.peer_rec.specs.Rec.{buckets_of, is_tried};
 ghost use Rattle.peer_rec.specs.declared.buckets.TheConstants.{MAX_LISTS};

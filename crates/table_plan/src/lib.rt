@@ -14,7 +14,6 @@
 
 mod draft;
 mod known;
-mod memory;
 mod number_order;
 mod plan;
 mod reach;

@@ -1,3 +1,5 @@
+//! `NumberOrder`: numbers in an order, with deletion in constant time.
+
 ghost use Rattle.std.specs.Prelude.{◌≡◌, IfOk};
 ghost use Rattle.std.specs.List.{range_with_len};
 

@@ -1,3 +1,5 @@
+//! `Plan` places all records of a file, and says which are left.
+
 ghost use Rattle.std.specs.Prelude.{◌≡◌, ◌<◌, ◌==◌, ◌||◌, length, not, true};
 ghost use Rattle.net_addr.specs.Ranges.{is_valid};
 ghost use Rattle.peer_rec.specs.Rec.{buckets_of};

@@ -1,3 +1,5 @@
+//! `Reach`: the 64 buckets of one source group, each kept once it has been computed.
+
 ghost use Rattle.std.specs.Prelude.{◌≡◌, ◌≢◌, ℕ, ◌<◌, ◌≤◌, length, None, Some, slice_index_or};
 ghost use Rattle.placing.specs.Places.{Places, source_bucket, new_bucket};
 ghost use Rattle.placing.specs.declared.placer.TheConstants.{SOURCE_BUCKETS};

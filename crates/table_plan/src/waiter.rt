@@ -1,3 +1,5 @@
+//! `Waiter`: a collision as a number and an id, with `forget` for a record that is deleted.
+
 ghost use Rattle.std.specs.Prelude.{◌≡◌, ◌==◌, map};
 ghost use Rattle.table_plan.specs.Waiters.{forget, id_without};
 

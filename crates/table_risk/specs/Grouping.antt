@@ -7,9 +7,11 @@ use Rattle.placing.specs.Places.{Places, group}
 use Rattle.table_risk.specs.declared.by.By.{By}
 use Rattle.table_risk.specs.declared.by.By.TheVariants.{Source, Peer, Network}
 
+-- The group of a record by its network: one byte, the network's number.
 abbrev pub network_group : Rec → List ℕ
 network_group r = net_number (network r) ∷ []
 
+-- The group of a record, by what makes records one group.
 abbrev pub group_by : By → Places → Rec → List ℕ
 group_by Source places r = group places r.source
 group_by Peer places r = group places r.peer.addr

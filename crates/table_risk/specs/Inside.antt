@@ -35,6 +35,7 @@ in_mask mask slot = bit_at mask slot == 1
 
 -- ---- the first record of each group
 
+-- The lower of two indexes, which keeps the first record of a group.
 abbrev pub lower : ℕ → ℕ → ℕ
 lower n index = min n index
 
@@ -49,6 +50,7 @@ firsts_by places by count recs = tally_of count lower (index_visits (group_by by
 
 -- ---- the starts that lead to the records of each chance
 
+-- The sum of two numbers of starts.
 abbrev pub plus : ℕ → ℕ → ℕ
 plus n starts = n + starts
 
@@ -58,6 +60,7 @@ visits_for places what likely o =
     if chance o.rec what.now == likely then (group_by what.by places o.rec, o.starts) ∷ []
     else []
 
+-- The records of a chance, each by its group with its starts.
 unfoldable pub class_visits : Places → Search → List Occupant → ℕ → List (List ℕ × ℕ)
 class_visits places what occupants likely = flat_map (visits_for places what likely) occupants
 
@@ -67,6 +70,7 @@ pub record Counts : Type 0 where
   pub all : ℕ
   pub groups : List (List ℕ × ℕ)
 
+-- What a class in memory says.
 abbrev pub class_value : {H G : Type 0} → Class H G → Counts
 class_value c = record { chance = c.chance; all = c.all; groups = by_bytes c.groups.entries }
 
@@ -74,11 +78,13 @@ class_value c = record { chance = c.chance; all = c.all; groups = by_bytes c.gro
 abbrev pub all_starts : List (List ℕ × ℕ) → ℕ
 all_starts visits = sum_by (λ v. v.1) visits
 
+-- The class of a chance, from the records in the slots.
 abbrev pub class_by : Places → Search → List Occupant → ℕ → Counts
 class_by places what occupants likely =
     let visits = class_visits places what occupants likely in
     record { chance = likely; all = all_starts visits; groups = tally_of 0 plus visits }
 
+-- The kind of a group in a class.
 abbrev pub kind_in : List ℕ → Counts → Kind
 kind_in g c = record { chance = c.chance; all = c.all; theirs = value_in 0 c.groups g }
 
@@ -88,6 +94,7 @@ pub record Sides : Type 0 where
   pub wanted : ℕ
   pub slots : ℕ
 
+-- What a side in memory says.
 abbrev pub side_value : {H G : Type 0} → Side H G → Sides
 side_value s = record {
   classes = map class_value s.classes.items;
@@ -95,6 +102,7 @@ side_value s = record {
   slots = s.slots;
 }
 
+-- The side of a table, from a view.
 abbrev pub side_by : View → Search → Sides
 side_by view what =
     let occupants = occupants_of view what.in_new in
@@ -113,11 +121,13 @@ pub record FitsSide (side : Sides) (g : List ℕ) : Type 0 where
   pub few : length side.classes ≤ 18
   pub kinds : is_none side ≡ false → AreKinds (map (kind_in g) side.classes)
 
+-- Of 2^64 searches, an upper bound on those that end at a group, by its kinds.
 unfoldable pub classes_share : List Counts → List ℕ → ℕ
 classes_share classes g =
     let kinds = map (kind_in g) classes in
     most_by kinds (starts_of kinds * 2 ^ 30) (2 ^ 64) AHEAD first_factor
 
+-- The same bound, at most all searches, and 0 if the table has no eligible record.
 abbrev pub side_share : Sides → List ℕ → ℕ
 side_share side g =
     if is_none side then 0 else min (classes_share side.classes g) (2 ^ 64)
@@ -126,6 +136,7 @@ side_share side g =
 abbrev pub whole_in : Sides → Sides → ℕ
 whole_in new tried = if new.wanted == 0 || tried.wanted == 0 then 2 ^ 64 else 2 ^ 65
 
+-- The row of a group: its share of the picks, and of those from each table, in parts of a million.
 abbrev pub row_in : Sides → Sides → List ℕ → ℕ → Row
 row_in new tried g first =
     let in_new = side_share new g in

@@ -16,14 +16,17 @@ abbrev pub starts_at : View → Bool → ℕ → ℕ → ℕ
 starts_at view in_new bucket slot =
     gap (λ s. is_some (occupant_at view in_new bucket s)) SLOTS slot
 
+-- The record of a slot with its starts; none if the slot is free.
 abbrev pub occupant_in : Option Rec → ℕ → List Occupant
 occupant_in None starts = []
 occupant_in (Some r) starts = record { rec = r; starts = starts } ∷ []
 
+-- The record in a slot of a bucket, with the number of starts that lead to it.
 abbrev pub slot_occupant : View → Bool → ℕ → ℕ → List Occupant
 slot_occupant view in_new bucket slot =
     occupant_in (occupant_at view in_new bucket slot) (starts_at view in_new bucket slot)
 
+-- The records in the slots of a bucket.
 unfoldable pub bucket_occupants : View → Bool → ℕ → List Occupant
 bucket_occupants view in_new bucket =
     flat_map (slot_occupant view in_new bucket) (range_with_len 0 SLOTS)

@@ -18,6 +18,7 @@ use Rattle.table_risk.specs.declared.by.By.{By}
 use Rattle.table_risk.specs.declared.classes.Search.{Search}
 use Rattle.table_risk.specs.declared.rows.Row.{Row}
 
+-- The search of a table, of groups of this kind, at this time.
 abbrev pub search : Bool → By → ℕ → Search
 search in_new by now = record { in_new = in_new; by = by; now = now }
 
@@ -70,6 +71,7 @@ abbrev pub rank_cmp : Row → Row → Ordering
 rank_cmp a b =
     ordering_then (nat_cmp b.picks a.picks) (slice_cmp nat_cmp a.group.items b.group.items)
 
+-- The row comes before another one.
 abbrev pub comes_before : Row → Row → Bool
 comes_before a b = is_lt (rank_cmp a b)
 

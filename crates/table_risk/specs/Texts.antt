@@ -28,11 +28,13 @@ part_text label part =
     label ++ (decimal (part / 10000)
     ++ (codes "." ++ (four_digits (part % 10000) ++ codes " %")))
 
+-- The word before the name of a group.
 abbrev pub word_of : By → List ℕ
 word_of Source = codes "source "
 word_of Peer = codes "peer "
 word_of Network = codes "network "
 
+-- The name of a network.
 abbrev pub network_name : Net → List ℕ
 network_name Unroutable = codes "not routable"
 network_name Ipv4 = codes "ipv4"
@@ -48,10 +50,12 @@ name_by Source places r = name_of places r.source
 name_by Peer places r = name_of places r.peer.addr
 name_by Network places r = network_name (network r)
 
+-- The name of the group of a record; empty if there is none.
 abbrev pub name_in : By → Places → Option Rec → List ℕ
 name_in by places None = []
 name_in by places (Some r) = name_by by places r
 
+-- The shares of a group in percent, with a line feed.
 unfoldable pub parts_text : ℕ → ℕ → ℕ → List ℕ
 parts_text picks new tried =
     part_text (codes ": picks ") picks

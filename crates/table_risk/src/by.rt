@@ -1,3 +1,9 @@
+//! `By`: what makes records one group, which is the source, the peer or the network.
+//!
+//! A group by source is that of the record's first source, in both tables: the question is whose
+//! word the node takes. Each group is counted once for every start that leads to a record of its
+//! own.
+
 ghost use Rattle.std.specs.Prelude.{◌≡◌};
 ghost use Rattle.table_risk.specs.Grouping.{group_by};
 

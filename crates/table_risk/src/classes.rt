@@ -1,3 +1,5 @@
+//! `Class` and `Search`: for each chance, how many starts lead to records, in all and by group.
+
 ghost use Rattle.std.specs.Prelude.{◌≡◌, ◌≤◌, ◌<◌, ◌+◌, ◌^◌, ℕ, List, IfOk, OnOk, length, map};
 ghost use Rattle.risk_laws.specs.Classes.{chances};
 ghost use Rattle.table_groups.specs.Tally.{by_bytes, noted, value_in};

@@ -1,3 +1,5 @@
+//! The first record of each group, by index.
+
 ghost use Rattle.std.specs.Prelude.{◌≡◌, IfOk, OnOk, length};
 ghost use Rattle.table_groups.specs.Tally.{by_bytes, noted};
 ghost use Rattle.table_risk.specs.Inside.{firsts_by, lower};

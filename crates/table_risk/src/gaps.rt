@@ -1,3 +1,6 @@
+//! `gap`: the number of slots of a bucket from which a round comes to this slot, by the bucket's
+//! mask.
+
 ghost use Rattle.std.specs.Prelude.{◌≡◌, ◌≤◌, ◌<◌, ◌*◌};
 ghost use Rattle.table_risk.specs.Inside.{in_mask};
 ghost use Rattle.slot_grid.specs.declared.sizes.TheConstants.{SLOTS};

@@ -1,3 +1,5 @@
+//! The law that the rows are bounds.
+
 ghost use Rattle.std.specs.Prelude.{◌≡◌, ℕ, ◌*◌, ◌^◌, ◌≤◌, Bool, true, false, List};
 ghost use Rattle.net_addr.specs.NetSet.{all};
 ghost use Rattle.net_addr.specs.declared.peer.Peer.{Peer};
@@ -21,6 +23,20 @@ use risk_tries::tries_are_bounded;
 /// most the part that its row says, in parts of a million: from both tables, or from the new one
 /// only. A search of the tried table ends at one for at most the part `tried`. If the tables know
 /// of no try, the text is the same at any time from 600 seconds since 1970 on.
+///
+/// The set is any that has, of the tables' peers, just those of the group (`AreOfGroup`): by the
+/// group of the source that announced them first, by their own, or by their network. `risk_text`
+/// computes the rows from the slots of a view; the law is about the view of a state, whose slots
+/// have as many starts of each chance as its records do.
+///
+/// An example that can be worked out by hand is the folder `examples/node`. Its new table has three
+/// buckets with one record each: 128 of the 192 starts lead to 8.8.8.8, which the source 1.2.3.4
+/// announced, and 64 to the other peer. The other failed once, so its chance is 0.66, and 1/3 ·
+/// 0.34 of the first rounds refuse it. The next factor is 1.2, so 1/3 · 0.208 of the second rounds
+/// refuse it, and then 1/3 · 0.0496 of the third; at the fourth both are accepted. In all 2/3 · (1
+/// + 0.11333 + 0.11333 · 0.06933 + 0.11333 · 0.06933 · 0.01653) = 0.74755 of the picks from the new
+/// table are of 8.8.8.8. The one record of the tried table came from that source too, so half of
+/// all picks and half of 74.7548 % are 87.3774 %.
 pub fn rows_are_bounds()
     ensures picks { (st : State) (by : By) (g : List ℕ) (now first n : ℕ) (theirs : Peer → Bool) →
         IsSound st → AreOfGroup st by g theirs →

@@ -1,3 +1,5 @@
+//! `Known`: what counts of each record, for sets of addresses.
+
 ghost use Rattle.std.specs.Prelude.{◌≡◌, ◌<◌, All, IfOk, map};
 ghost use Rattle.peer_rec.specs.Rec.{buckets_of};
 ghost use Rattle.risk_parts.specs.Leads.{AreLeads, lead_of};

@@ -1,3 +1,5 @@
+//! `Occupant`: the records in the slots of a view, each with the number of starts that lead to it.
+
 ghost use Rattle.std.specs.Prelude.{◌≡◌, ◌≤◌, ◌<◌, ◌*◌, ◌++◌, IfOk, OnOk, is_some};
 ghost use Rattle.slot_grid.specs.declared.sizes.TheConstants.{SLOTS};
 ghost use Rattle.table_groups.specs.Slots.{some_in};

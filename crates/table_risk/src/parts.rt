@@ -1,3 +1,5 @@
+//! `set_parts`: the parts of several sets of addresses.
+
 ghost use Rattle.std.specs.Prelude.{◌≡◌, IfOk};
 ghost use Rattle.risk_parts.specs.Parts.{parts_for};
 ghost use Rattle.risk_parts.specs.Sets.{is_among};

@@ -1,3 +1,5 @@
+//! `Row` and `rows_in_order`: the groups with their parts, most picks first.
+
 ghost use Rattle.std.specs.Prelude.{◌≡◌, ◌≤◌, ◌<◌, ◌^◌, ℕ, List, IfOk, map};
 ghost use Rattle.indexmap.specs.IndexMap.{keys};
 ghost use Rattle.std.specs.List.Sorted.{IsPermutation, IsSortedBy};

@@ -1,3 +1,5 @@
+//! `sets_text`, the output of `risk -`: a line for each set and one for all.
+
 ghost use Rattle.std.specs.Prelude.{◌≡◌, ◌++◌, ℕ, All, IfOk, OnOk};
 ghost use Rattle.std.specs.List.{flat_map};
 ghost use Rattle.risk_parts.specs.Leads.{AreLeads, AreSomeLeads};

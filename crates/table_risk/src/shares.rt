@@ -1,3 +1,5 @@
+//! `share`: of 2^64 searches of a table, how many end at a group.
+
 ghost use Rattle.std.specs.Prelude.{◌≡◌, ◌≤◌, ◌*◌, ◌^◌, length, map};
 ghost use Rattle.risk_sum.specs.Kinds.{AreKinds, most_by, starts_of};
 ghost use Rattle.table_risk.specs.Inside.{class_value, kind_in};

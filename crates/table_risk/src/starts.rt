@@ -1,3 +1,5 @@
+//! The number of starts from which a round comes to a record, in each table.
+
 ghost use Rattle.std.specs.Prelude.{◌≡◌, ◌≤◌, ◌<◌, ◌*◌, true, false, All, length, sum_by};
 ghost use Rattle.net_addr.specs.NetSet.{all};
 ghost use Rattle.peer_rec.specs.Rec.{buckets_of};

@@ -1,3 +1,6 @@
+//! `ten_part`: the share of lists of tries that open all connections to peers of sets, from the
+//! shares of their groups in the tables.
+
 ghost use Rattle.std.specs.Prelude.{◌≡◌, ◌≤◌, ◌^◌, ℕ, List, [], IfOk, OnOk, fold, map};
 ghost use Rattle.indexmap.specs.IndexMap.{keys};
 ghost use Rattle.table_groups.specs.Tally.{by_bytes};

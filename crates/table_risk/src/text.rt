@@ -1,3 +1,5 @@
+//! `risk_text`, the output of `risk`: percentages with four digits, after a first line with counts.
+
 ghost use Rattle.std.specs.Prelude.{◌≡◌, ◌++◌, IfOk, OnOk, option_map, slice_get};
 ghost use Rattle.std.specs.List.{flat_map};
 ghost use Rattle.table_risk.specs.Texts.{IsRiskText, four_digits, heading, heading_of, name_by, name_in, network_name, numbers_text, part_text, parts_text, row_text, used_buckets, word_of};

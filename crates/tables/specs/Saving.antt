@@ -15,10 +15,11 @@ number_id l = (l.rec.number, l.id)
 abbrev pub LeadTo : Order → List Rec → List ℕ → Type 0
 LeadTo order recs ids = map (rec_of order) ids ≡ map Some recs
 
--- what a file has of a record if it is in the new table, and if it is in the tried table
+-- What a file has of a record among those of the new table.
 abbrev pub new_part : Rec → List FileRec
 new_part r = if is_tried r then [] else file_rec r ∷ []
 
+-- What a file has of a record among those of the tried table.
 abbrev pub tried_part : Rec → List FileRec
 tried_part r = if is_tried r then file_rec r ∷ [] else []
 

@@ -1,3 +1,5 @@
+//! `duplicate` finds the first valid record of a file that has the peer of an earlier one.
+
 ghost use Rattle.std.specs.Prelude.{◌≡◌, ◌≤◌, ◌+◌, ◌*◌, ◌^◌, ◌++◌, ◌∷◌, [], length, List, All, None, IfOk, false};
 ghost use Rattle.peer_rec.specs.Snapshot.{IsFileRec};
 ghost use Rattle.peer_rec.specs.declared.file_rec.FileRec.{FileRec};

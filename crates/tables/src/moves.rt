@@ -1,3 +1,6 @@
+//! `good` and the moves between the new and the tried table (`MakeTried`, `ClearNew`), also back
+//! into the new table.
+
 ghost use Rattle.slot_grid.specs.declared.sizes.TheConstants.{NEW_BUCKETS, TRIED_BUCKETS, SLOTS};
 
 use crate::Store;

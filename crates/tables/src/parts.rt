@@ -1,3 +1,5 @@
+//! `TableParts` fills the index and the grid from a plan, which is the work of a restore.
+
 ghost use Rattle.std.specs.Prelude.{◌≡◌, ◌+◌, ◌*◌, ◌≤◌, length, IfOk, IfErr, OnOk, None, [], ◌<◌, ◌^◌, All};
 ghost use Rattle.placing.specs.Places.{IsPlaces};
 ghost use Rattle.table_machine.specs.Restoring.{duplicate, restored};

@@ -1,3 +1,5 @@
+//! `Tables::restore`, the public call over `parts.rt`.
+
 use crate::parts::restore;
 use crate::{RestoreFault, Store, Tables};
 use arrayvec::ArrayVec;

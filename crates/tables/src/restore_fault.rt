@@ -1,7 +1,9 @@
+//! `RestoreFault`: a duplicate, or memory ran out.
+
 ghost use Rattle.std.specs.Prelude.{◌≡◌};
 ghost use Rattle.tables.specs.declared.restore_fault.RestoreFault.TheVariants.{Memory};
 
-use table_plan::Memory;
+use memory::Memory;
 
 /// Why tables are not restored.
 #[derive(Clone, Copy, Debug, PartialEq, Eq)]
@@ -17,14 +19,6 @@ impl From<Memory> for RestoreFault {
     ghost from_gives = { λ _ e. e ≡ Memory };
 
     fn from(_: Memory) -> RestoreFault {
-        RestoreFault::Memory
-    }
-}
-
-impl From<peer_index::Memory> for RestoreFault {
-    ghost from_gives = { λ _ e. e ≡ Memory };
-
-    fn from(_: peer_index::Memory) -> RestoreFault {
         RestoreFault::Memory
     }
 }

@@ -1,3 +1,5 @@
+//! What a save gathers: the records by rising number, and the pairs of the buckets.
+
 ghost use Rattle.std.specs.Prelude.{◌≡◌, ◌<◌, ◌≤◌, ◌++◌, ◌^◌, [], All, IfOk, OnOk, Some, false, length, map, set, slice_get, true, vec_len};
 ghost use Rattle.peer_rec.specs.Rec.{is_tried};
 ghost use Rattle.table_machine.specs.Snapshot.{file_rec};

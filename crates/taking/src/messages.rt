@@ -1,3 +1,6 @@
+//! `take_message` reads a payload and adds its entries, with `clamp_time` and `MESSAGE_PENALTY`; it
+//! answers `Added` or `MessageFault`.
+
 ghost use Rattle.std.specs.Prelude.{◌≡◌, ◌+◌, ◌≤◌, ◌<◌, ◌^◌, length, IfOk, IfErr, OnOk, OnErr};
 ghost use Rattle.addr_codecs.specs.declared.message.TheConstants.{MAX_ENTRIES};
 ghost use Rattle.taking.specs.Messages.{clamp_time, take_entry, take_entries};

@@ -1,6 +1,7 @@
-// What crashes leave of a folder in memory in which three files were made and the folder was not
-// synced: each mix of what may be at their names. Then the same after it was synced, and after one
-// of the files was renamed and synced.
+//! What crashes leave of a folder in memory in which three files were made and the folder was not
+//! synced: each mix of what may be at their names. Then the same after it was synced, and after one
+//! of the files was renamed and synced.
+
 use host_io::{Bytes, Failed, Folder, MemFolder, Memory, Name};
 use save_store::{SaveJob, write_temp};
 use std::alloc::Global;
@@ -59,7 +60,7 @@ fn print_each<R: Print>(rt: &R, folder: &MemFolder, count: u64) -> io::Result<()
 }
 
 /// Renames peers.tmp to peers.dat and syncs the file, but not the folder.
-fn move_file<F: Folder>(folder: &mut F) -> Result<(), Failed> {
+fn move_file(folder: &mut MemFolder) -> Result<(), Failed> {
     if let Some(_) = folder.size(Name::PeersTemp)? {
         folder.rename(Name::PeersTemp, Name::Peers)?;
     }

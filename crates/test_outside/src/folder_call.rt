@@ -1,3 +1,5 @@
+//! `FolderCall`, `CALLS` and `TURNS`: calls of a folder, printed with their answers.
+
 use host_io::{DirFolder, Failed, Folder, Lock, Name};
 use std::alloc::{AllocError, Global};
 use std::io;
@@ -18,7 +20,7 @@ pub(crate) enum FolderCall<'a> {
 
 /// Calls of a folder that has `bitcoin` in asmap.dat, a folder as banlist.json, as banlist.tmp a
 /// link to asmap.dat, as asmap.tmp another name of that file, and as prefixes.txt a link to itself.
-static CALLS: [FolderCall<'static>; 47] = [
+static CALLS: [FolderCall<'static>; 48] = [
     // No call but `create` makes a file.
     FolderCall::Size(Name::Peers),
     FolderCall::Read(Name::Peers, 0),
@@ -38,6 +40,7 @@ static CALLS: [FolderCall<'static>; 47] = [
     FolderCall::Size(Name::Peers),
     FolderCall::Read(Name::Peers, 3),
     FolderCall::Read(Name::Peers, 7),
+    FolderCall::Read(Name::Peers, u64::MAX),
     // A file has no other name, and is renamed over another, which is read to its end.
     FolderCall::Size(Name::Asmap),
     FolderCall::Create(Name::AsmapTemp),

@@ -1,3 +1,5 @@
+//! A file as one letter or digit, so that many images fit in a line.
+
 use host_io::{MemFolder, Memory, Name};
 
 /// The files that are saved as peers.dat, one after another.

@@ -1,5 +1,6 @@
-// Saves of peers.dat one after another, in a folder in memory of which calls fail, and what crashes
-// leave of the file and of the temporary one.
+//! Saves of peers.dat one after another, in a folder in memory of which calls fail, and what
+//! crashes leave of the file and of the temporary one.
+
 use crate::mark::{SAVES, push_marks};
 use host_io::{Bytes, Failed, Folder, MemFolder, Memory, Name};
 use save_store::{SaveJob, save};

@@ -1,4 +1,5 @@
-// Saves of peers.dat in the current folder, at once and in pieces, and what is loaded after each.
+//! Saves of peers.dat in the current folder, at once and in pieces, and what is loaded after each.
+
 use host_io::{Bytes, DirFolder, Failed, Folder, Lock, Name};
 use save_store::{LoadFault, SaveJob, load, save};
 use std::alloc::{AllocError, Global};

@@ -1,4 +1,5 @@
-// A source over a reader gives its pieces, and each error of the reader is a fault.
+//! A source over a reader gives its pieces, and each error of the reader is a fault.
+
 use host_io::{Failed, Source, StdSource};
 use std::io;
 use std::io::{ErrorKind, Read};

@@ -1,3 +1,5 @@
+//! `Watch`: a system whose calls fail by a `Plan`.
+
 use host_io::Lock;
 use std::alloc::Allocator;
 use std::cell::Cell;

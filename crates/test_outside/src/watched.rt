@@ -1,5 +1,6 @@
-// The system calls that the calls of a folder make, what they answer if one of those fails or is
-// odd, and what is loaded of a file that has another length than it said.
+//! The system calls that the calls of a folder make, what they answer if one of those fails or is
+//! odd, and what is loaded of a file that has another length than it said.
+
 use crate::folder_call::{FolderCall, answer, print_answers};
 use crate::saves::print_loaded;
 use crate::watch::{Fault, Plan, Watch};

@@ -1,5 +1,6 @@
-// A sink over a writer flushes each write. Each error of the writer is a fault, and so is a write
-// that takes no byte.
+//! A sink over a writer flushes each write. Each error of the writer is a fault, and so is a write
+//! that takes no byte.
+
 use host_io::{Failed, Sink, StdSink};
 use std::io;
 use std::io::{ErrorKind, Write};

@@ -1,3 +1,5 @@
+//! The calls of a folder as text.
+
 use host_io::{Action, Call};
 use std::alloc::{AllocError, Global};
 

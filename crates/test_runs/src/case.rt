@@ -1,3 +1,5 @@
+//! `Case` reads a case: arguments, log lines, files, failing calls, and what has to come of them.
+
 use crate::images::{Images, Mark};
 use crate::unread::Unread;
 use gen_load::{Gen, MAX_LINES};

@@ -1,3 +1,5 @@
+//! Runs each case of a text, and prints what differs (`Tally`, `Place`).
+
 use crate::case::Case;
 use crate::ran::{Ran, is_right, run_case};
 use crate::unread::Unread;

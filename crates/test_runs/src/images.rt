@@ -1,3 +1,5 @@
+//! What crashes leave after a run, as marks; and replays of `dump`.
+
 use crate::case::Case;
 use crate::ran::status_of;
 use crate::unread::Unread;

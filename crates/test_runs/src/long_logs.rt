@@ -1,4 +1,5 @@
-// A log of the largest size, and one of a byte more. No case has so many bytes.
+//! A log of the largest size, and one of a byte more. No case has so many bytes.
+
 use crate::case::Case;
 use crate::cases::Tally;
 use crate::ran::{end_of, status_of};

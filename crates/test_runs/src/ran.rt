@@ -1,3 +1,5 @@
+//! `Ran` runs a case, and compares the status, the output, the files and the log that is left.
+
 ghost use Rattle.std.specs.Prelude.{◌≡◌, true, string_bytes};
 
 use crate::calls::calls_of;

@@ -1,3 +1,5 @@
+//! Statuses that no case ends with.
+
 use crate::case::Case;
 use crate::cases::Tally;
 use crate::ran::{end_of, status_of};

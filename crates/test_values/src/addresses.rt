@@ -1,3 +1,5 @@
+//! The calls `address`, `peer`, `class`, `bytes`, `v1`, `ipv4` and `ipv6`.
+
 use crate::fields::first_word;
 use crate::text::{addr_text, bytes_of, hex_text, owned, peer_text, yes_or_no};
 use crate::unread::Unread;

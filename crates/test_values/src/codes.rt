@@ -1,3 +1,5 @@
+//! The calls `coded`, `coded-many`, `coded-at` and `coded-bits`.
+
 ghost use Rattle.bit_code.specs.Coder.{HasValue};
 
 use crate::fields::RowFields;

@@ -1,3 +1,5 @@
+//! `RowFields`: the arguments of a row, taken one after another.
+
 use crate::unread::Unread;
 use net_addr::{NetAddr, Peer, parse_addr, parse_peer};
 

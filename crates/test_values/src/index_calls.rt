@@ -1,3 +1,5 @@
+//! The calls `index-add`, `index-remove`, `index-swap`, `index-order` and `index-find`.
+
 ghost use Rattle.std.specs.Prelude.{◌≡◌};
 
 use crate::fields::RowFields;

@@ -1,3 +1,5 @@
+//! Calls of `Limiter`: `open`, `close`, `getaddr`, `admit`, `repeat` and `find`.
+
 ghost use Rattle.std.specs.Prelude.{◌≤◌};
 
 use crate::fields::RowFields;

@@ -1,3 +1,5 @@
+//! The call `number`, and calls that read a number at an offset in bytes.
+
 use crate::fields::{RowFields, first_word};
 use crate::text::{bytes_of, number_text};
 use crate::unread::Unread;

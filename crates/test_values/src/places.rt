@@ -1,3 +1,6 @@
+//! The calls `places`, `group`, `core-sum`, `source-buckets`, `choice`, `new-slot`, `hash` and
+//! others.
+
 use crate::fields::{RowFields, first_word};
 use crate::text::{bytes_of, decimal, hex_text, owned};
 use crate::unread::Unread;

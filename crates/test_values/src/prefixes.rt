@@ -1,3 +1,5 @@
+//! The calls `prefix` and `rows`, and those on the table of the lines read before.
+
 use crate::fields::RowFields;
 use crate::text::{bytes_of, decimal, in_one_line, owned};
 use crate::unread::Unread;

@@ -1,3 +1,5 @@
+//! The call `chance`, and a record whose numbers differ.
+
 use crate::fields::RowFields;
 use crate::text::{decimal, yes_or_no};
 use crate::unread::Unread;

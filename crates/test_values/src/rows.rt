@@ -1,3 +1,5 @@
+//! Checks each line `NAME ARGUMENTS -> ANSWER`, and counts (`Tally`).
+
 use crate::fields::first_word;
 use crate::unread::Unread;
 use crate::values::Values;

@@ -1,3 +1,5 @@
+//! Values as texts: decimal, hexadecimal, yes or no.
+
 use crate::unread::Unread;
 use net_addr::{NetAddr, Peer, put_addr, put_peer};
 use std::alloc::Global;

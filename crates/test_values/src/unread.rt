@@ -1,3 +1,5 @@
+//! `Unread`: why a call is not made.
+
 use std::alloc::{AllocError, AllocFailed};
 
 /// Why a call is not made.

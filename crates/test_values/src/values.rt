@@ -1,3 +1,5 @@
+//! `Values` and `CALLS`: which call belongs to which file, and what the calls of a block leave.
+
 use crate::index_calls::Hasher;
 use crate::limiter_calls::limiter_call;
 use crate::prefixes::Prefixes;

@@ -1,3 +1,5 @@
+//! The calls `facts` and `places-by`, for `vectors/`.
+
 use crate::fields::RowFields;
 use crate::places::places;
 use crate::text::{bytes_of, hex_text};

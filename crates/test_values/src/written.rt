@@ -1,3 +1,5 @@
+//! The call `written WHAT`: messages, faults, copies and comparisons.
+
 ghost use Rattle.std.specs.Prelude.{◌≡◌, IfOk};
 
 use crate::records::record;

@@ -1,3 +1,6 @@
+//! `clash_pick` (`SelectTriedCollision_`): a random word selects a collision, and the answer is its
+//! slot's occupant.
+
 ghost use Rattle.std.specs.Prelude.{◌≡◌, ◌%◌, ◌<◌, Contains, get_or, length};
 ghost use Rattle.table_machine.specs.State.{by_number};
 ghost use Rattle.table_machine.specs.Sound.{IsSound};

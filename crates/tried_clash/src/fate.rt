@@ -1,3 +1,6 @@
+//! `fate_against` decides a collision: erased, moved or kept, by `REPLACEMENT`, `TEST_TIME` and
+//! `TEST_WINDOW`.
+
 ghost use Rattle.std.specs.Prelude.{◌≡◌, ◌+◌, ◌<◌};
 ghost use Rattle.table_machine.specs.Clashes.{fate_against, one_more};
 

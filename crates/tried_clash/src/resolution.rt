@@ -1,3 +1,5 @@
+//! `resolve` (`ResolveCollisions_`) decides each collision, and moves newcomers in.
+
 ghost use Rattle.std.specs.Prelude.{◌≡◌, ◌+◌, ◌≤◌, Contains};
 ghost use Rattle.table_machine.specs.State.{by_number};
 ghost use Rattle.table_machine.specs.Sound.{IsSound};

@@ -1,4 +1,5 @@
--- The fields of messages and files: bytes, numbers of a fixed width, and CompactSize.
+-- The fields of messages and files: bytes, numbers of a fixed width, and CompactSize. Bitcoin Core
+-- writes them so in serialize.h.
 use Rattle.std.specs.Prelude.{◌≡◌, ℕ, ◌<◌, ◌*◌, ◌^◌, List, [], ◌∷◌, length}
 use Rattle.std.specs.Int.{Width, byte_len, to_le_bytes, to_be_bytes}
 use Rattle.wire_num.specs.CompactSize.{compact_size, IsCut, IsLong}

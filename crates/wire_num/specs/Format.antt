@@ -1,5 +1,6 @@
--- The meaning of bytes that are read from the start, field by field: the value that they encode,
--- or their first fault.
+-- The meaning of bytes that are read from the start, field by field: the value that they encode, or
+-- their first fault. One description says what is read and what is refused, so its lines read like
+-- the table of a standard. A list of formats hands each index on, since a fault names its record.
 use Rattle.std.specs.Prelude.{◌≡◌, ◌≢◌, ℕ, zero, suc, ◌+◌, List, [], ◌∷◌, ◌++◌, Bool, true, false, ◌⊎◌}
 
 -- which bytes encode a value; and which bytes begin with fields without a fault, and then a field
@@ -24,6 +25,7 @@ sequence p q = record {
 }
 
 infixl 10 ◌>>=◌
+-- One format and then another, as `do` writes it.
 abbrev pub ◌>>=◌ : {F A B : Type 0} → Format F A → (A → Format F B) → Format F B
 p >>= q = sequence p q
 

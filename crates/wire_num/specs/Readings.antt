@@ -5,6 +5,7 @@ use Rattle.wire_num.specs.declared.fault.WireFault.{WireFault}
 use Rattle.wire_num.specs.declared.fault.WireFault.TheVariants.{Truncated, NonCanonical}
 
 infixl 10 ◌>>=◌
+-- One reading and then another, as `do` writes it; the first fault ends it.
 abbrev pub ◌>>=◌ : {F A B : Type 0} → Result A F → (A → Result B F) → Result B F
 (Ok x) >>= f = f x
 (Err e) >>= f = Err e
@@ -48,23 +49,28 @@ abbrev pub map_fault_at : {E F A : Type 0} → (E → F) → (List ℕ → Resul
     → Result (A × List ℕ) F
 map_fault_at name r bytes = fault_as name (r bytes)
 
+-- Reads a number of bytes.
 abbrev pub bytes_at : ℕ → List ℕ → Result (List ℕ × List ℕ) WireFault
 bytes_at n bytes =
     if nat_lt (length bytes) n then Err Truncated else Ok (take n bytes, drop n bytes)
 
+-- Reads one byte.
 abbrev pub byte_at : List ℕ → Result (ℕ × List ℕ) WireFault
 byte_at [] = Err Truncated
 byte_at (b ∷ rest) = Ok (b, rest)
 
+-- Reads a number of a width, by the value of its bytes.
 abbrev pub number_at : Width → (List ℕ → ℕ) → List ℕ → Result (ℕ × List ℕ) WireFault
 number_at w number_of bytes =
     if nat_lt (length bytes) (byte_len w)
     then Err Truncated
     else Ok (number_of (take (byte_len w) bytes), drop (byte_len w) bytes)
 
+-- Reads a number of a width, lowest byte first.
 abbrev pub le_at : Width → List ℕ → Result (ℕ × List ℕ) WireFault
 le_at w bytes = number_at w (from_le_bytes w) bytes
 
+-- Reads a number of a width, highest byte first.
 abbrev pub be_at : Width → List ℕ → Result (ℕ × List ℕ) WireFault
 be_at w bytes = number_at w (from_be_bytes w) bytes
 
@@ -72,6 +78,7 @@ be_at w bytes = number_at w (from_be_bytes w) bytes
 abbrev pub wide_at : Width → ℕ → List ℕ → Result (ℕ × List ℕ) WireFault
 wide_at w least bytes = le_at w bytes >>= λ n. if nat_le least n.0 then Ok n else Err NonCanonical
 
+-- Reads a CompactSize in its shortest encoding (`ReadCompactSize` in serialize.h of Bitcoin Core).
 unfoldable pub compact_at : List ℕ → Result (ℕ × List ℕ) WireFault
 compact_at [] = Err Truncated
 compact_at (b ∷ rest) =

@@ -1,3 +1,5 @@
+//! `read_compact` and `put_compact`: a CompactSize of 1, 3, 5 or 9 bytes, in its shortest encoding.
+
 ghost use Rattle.std.specs.Prelude.{◌≡◌, ◌↔◌, ℕ, ◌^◌, ◌<◌, ◌≤◌, List, ◌++◌, length, take, OnOk, OnErr, IfOk, IfNone, IfSome, Ok, Err, nat_lt, if◌then◌else◌};
 ghost use Rattle.wire_num.specs.declared.fault.WireFault.TheVariants.{Truncated, NonCanonical};
 ghost use Rattle.wire_num.specs.CompactSize.{compact_size};
@@ -5,8 +7,9 @@ ghost use Rattle.wire_num.specs.Fields.{CompactFault};
 ghost use Rattle.wire_num.specs.declared.fault.WireFault.{WireFault};
 ghost use Rattle.wire_num.specs.Readings.{GivesLength, compact_at};
 
-use crate::fault::{Memory, WireFault};
+use crate::fault::WireFault;
 use crate::numbers::{read_le16, read_le32, read_le64};
+use memory::Memory;
 
 /// Returns the number with `length`, the bytes that it takes together with the byte before it. A
 /// number below `least` fits in fewer bytes, and is rejected.

@@ -1,4 +1,4 @@
-use std::alloc::AllocError;
+//! `WireFault`: the bytes end too early, or a CompactSize is longer than needed.
 
 /// Why a field cannot be read.
 #[derive(Clone, Copy, Debug, PartialEq, Eq, Drop)]
@@ -7,14 +7,4 @@ pub enum WireFault {
     Truncated = 1,
     /// A CompactSize has more bytes than its value needs.
     NonCanonical = 2,
-}
-
-/// Out of memory.
-#[derive(Clone, Copy, Debug, PartialEq, Eq)]
-pub struct Memory;
-
-impl From<AllocError> for Memory {
-    fn from(_error: AllocError) -> Memory {
-        Memory
-    }
 }

@@ -15,6 +15,7 @@ mod numbers;
 mod take;
 
 pub use compact::{put_compact, read_compact};
-pub use fault::{Memory, WireFault};
+pub use fault::WireFault;
+pub use memory::Memory;
 pub use numbers::{read_be16, read_le32, read_le64};
 pub use take::{take_be16, take_byte, take_bytes, take_compact, take_le32, take_le64};

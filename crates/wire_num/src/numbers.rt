@@ -1,3 +1,5 @@
+//! Reads a number at an offset in bytes: `read_le16`, `read_le32`, `read_le64` and `read_be16`.
+
 ghost use Rattle.std.specs.Prelude.{◌≡◌};
 ghost use Rattle.wire_num.specs.Numbers.{le16_at, le32_at, le64_at, be16_at};
 

@@ -1,3 +1,6 @@
+//! Takes a value from the start of a slice and shortens the slice: `take_byte`, `take_bytes`,
+//! `take_le32`, `take_compact` and others.
+
 ghost use Rattle.std.specs.Prelude.{length};
 ghost use Rattle.std.specs.Int.{w16, w32, w64};
 ghost use Rattle.wire_num.specs.Readings.{Gives, bytes_at, byte_at, le_at, be_at, compact_at};

@@ -1,6 +1,8 @@
 //! Work of a known size for measurements: a script takes the time of whole runs, the program takes
 //! none.
 
+#![deny(unsafe_op_in_unsafe_fn)]
+
 #![cfg_attr(unix, no_main)]
 use plain_std::alloc::AllocGlobal;
 use plain_std::eprintln;

@@ -214,9 +214,9 @@ impl Calls {
 
     fn call(&mut self) -> Result<(), Box<dyn Error>> {
         match self.below(16) {
-            0..5 => self.message(),
-            5..11 => self.mark(),
-            11..13 => self.select(),
+            0..=4 => self.message(),
+            5..=10 => self.mark(),
+            11..=12 => self.select(),
             13 => self.sample(),
             14 => self.collisions(),
             _ => {

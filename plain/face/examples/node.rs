@@ -31,14 +31,14 @@ fn connect(
         if opener.len() == addrman::MAX_OUTBOUND {
             break;
         }
-        let Some(pick) = peers.select(false, Networks::ALL, now, rng)? else {
+        let pick = match peers.select(false, Networks::ALL, now, rng)? { Some(pick) => pick, _ => {
             break;
-        };
+        } };
         if opener.judge(peers, &pick, now, tries) != Verdict::Take {
             continue;
         }
         peers.attempt(&pick.peer, true, now);
-        if rng.next_u32().is_multiple_of(2) {
+        if rng.next_u32() % 2 == 0 {
             peers.good(&pick.peer, true, now);
             opener.opened(peers, &pick.peer)?;
         }

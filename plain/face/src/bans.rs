@@ -177,11 +177,12 @@ impl Bans {
         copied(ban_list::write_bans(Global, &self.0)?.items())
     }
 
-    /// Reads the `banlist.json` of a folder, or returns `None` if there is no such file.
+    /// Reads the `banlist.json` of a folder, or returns `None` if the folder has no such file.
     ///
     /// # Errors
     ///
-    /// The file cannot be read, or is no list of bans, or there is no memory.
+    /// The folder is missing, the file cannot be read, or is no list of bans, or there is no
+    /// memory.
     ///
     /// ```
     /// use addrman::Bans;
@@ -196,7 +197,8 @@ impl Bans {
         let files = InFolder(folder.as_ref());
         let mut folder = DirFolder::make(&files);
         match node_face::load_bans(Global, &mut folder) {
-            Ok(bans) => Ok(bans.map(Bans)),
+            Ok(Some(bans)) => Ok(Some(Bans(bans))),
+            Ok(None) => files.look().map(|()| None).map_err(BansError::Folder),
             Err(fault) => Err(BansError::of(fault, cause(&folder))),
         }
     }

@@ -26,12 +26,6 @@ impl From<tables::Memory> for Memory {
     }
 }
 
-impl From<net_addr::Memory> for Memory {
-    fn from(_: net_addr::Memory) -> Memory {
-        Memory
-    }
-}
-
 impl From<std::collections::TryReserveError> for Memory {
     fn from(_: std::collections::TryReserveError) -> Memory {
         Memory
@@ -168,6 +162,9 @@ pub enum LoadError {
     /// A call of the system failed.
     #[error("peers.dat cannot be read: {0}")]
     Io(#[source] io::Error),
+    /// The folder is missing, or cannot be looked into.
+    #[error("the folder of peers.dat cannot be read: {0}")]
+    Folder(#[source] io::Error),
     /// The bytes are no `peers.dat` of the chain: their first fault.
     #[error("no peers.dat of this chain: {0}")]
     File(FileFault),
@@ -345,6 +342,9 @@ pub enum BansError {
     /// A call of the system failed.
     #[error("banlist.json cannot be read: {0}")]
     Io(#[source] io::Error),
+    /// The folder is missing, or cannot be looked into.
+    #[error("the folder of banlist.json cannot be read: {0}")]
+    Folder(#[source] io::Error),
     /// The bytes are no list of bans.
     #[error("no list of bans: {0}")]
     File(BanFault),

@@ -11,6 +11,12 @@ use std::path::{Path, PathBuf};
 pub(crate) struct InFolder<'a>(pub(crate) &'a Path);
 
 impl InFolder<'_> {
+    /// The error of the system if the folder itself cannot be looked into: without it, no file in
+    /// it is there either.
+    pub(crate) fn look(&self) -> std::io::Result<()> {
+        std::fs::metadata(self.0).map(|_| ())
+    }
+
     /// The path of a name.
     fn at(&self, name: &str) -> io::Result<PathBuf> {
         let mut path = PathBuf::new();

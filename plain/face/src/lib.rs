@@ -51,6 +51,8 @@
 //! # Features
 //!
 //! `serde`: peers and addresses as their texts, entries and records as structs.
+
+#![deny(unsafe_op_in_unsafe_fn)]
 #![deny(unsafe_code)]
 #![deny(missing_docs)]
 
@@ -101,3 +103,10 @@ pub use peer_rec::{Counts, Good, Resolved};
 pub use peers_file::{Chain, FileFault, RecordCause, Which};
 pub use prefix_table::TableFault;
 pub use risk_parts::Parts;
+
+/// The tables hold at most this number of records: one for each slot.
+///
+/// ```
+/// assert_eq!(addrman::MAX_RECORDS, 81_920);
+/// ```
+pub const MAX_RECORDS: usize = slot_grid::ALL_SLOTS;

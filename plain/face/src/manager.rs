@@ -121,12 +121,13 @@ impl AddrMan {
         copied(node_face::write(Global, &self.tables, chain)?.items())
     }
 
-    /// Makes the tables that the `peers.dat` of a folder keeps, or returns `None` if there is no
-    /// such file.
+    /// Makes the tables that the `peers.dat` of a folder keeps, or returns `None` if the folder has
+    /// no such file.
     ///
     /// # Errors
     ///
-    /// The file cannot be read, or is none of the chain, or there is no memory.
+    /// The folder is missing, the file cannot be read, or is none of the chain, or there is no
+    /// memory.
     ///
     /// ```
     /// use addrman::{AddrMan, Chain};
@@ -135,6 +136,7 @@ impl AddrMan {
     /// std::fs::create_dir_all(&folder)?;
     /// # let _ = std::fs::remove_file(folder.join("peers.dat"));
     /// assert!(AddrMan::load(&folder, Chain::Main, None)?.is_none());
+    /// assert!(AddrMan::load(folder.join("missing"), Chain::Main, None).is_err());
     /// # Ok::<(), Box<dyn std::error::Error>>(())
     /// ```
     pub fn load(
@@ -146,7 +148,8 @@ impl AddrMan {
         let files = InFolder(folder.as_ref());
         let mut folder = DirFolder::make(&files);
         match node_face::load(Global, &mut folder, chain, map, rule, hasher) {
-            Ok(tables) => Ok(tables.map(|tables| AddrMan { tables })),
+            Ok(Some(tables)) => Ok(Some(AddrMan { tables })),
+            Ok(None) => files.look().map(|()| None).map_err(LoadError::Folder),
             Err(fault) => Err(LoadError::of(fault, cause(&folder))),
         }
     }

@@ -12,7 +12,8 @@ pub(crate) fn fill<R: RngCore + ?Sized>(words: &mut [u64], rng: &mut R) {
     for piece in words.chunks_mut(PIECE) {
         let bytes = &mut bytes[..8 * piece.len()];
         rng.fill_bytes(bytes);
-        for (word, bytes) in piece.iter_mut().zip(bytes.as_chunks().0) {
+        for (word, bytes) in piece.iter_mut().zip(bytes.chunks_exact(8)) {
+            let bytes: &[u8; 8] = bytes.try_into().unwrap_or(&[0; 8]);
             *word = u64::from_le_bytes(*bytes);
         }
     }

@@ -228,13 +228,19 @@ fn a_folder_keeps_the_tables() {
         peers.save(&folder, Chain::Main),
         Err(SaveError::Io(_))
     ));
-    assert!(AddrMan::load(&folder, Chain::Main, None).unwrap().is_none());
+    let missing = |error: &std::io::Error| error.kind() == std::io::ErrorKind::NotFound;
+    let read = AddrMan::load(&folder, Chain::Main, None);
+    assert!(matches!(read, Err(LoadError::Folder(error)) if missing(&error)));
 }
 
 #[cfg(unix)]
 #[test]
 fn a_folder_in_use_is_not_saved_in() {
     use std::os::unix::fs::PermissionsExt;
+
+    extern "C" {
+        fn flock(fd: std::os::raw::c_int, operation: std::os::raw::c_int) -> std::os::raw::c_int;
+    }
 
     let (peers, folder) = (many(10), folder("in-use"));
     peers.save(&folder, Chain::Main).unwrap();
@@ -244,7 +250,7 @@ fn a_folder_in_use_is_not_saved_in() {
         .mode();
     assert_eq!(mode & 0o777, 0o600);
     let lock = std::fs::File::open(&folder).unwrap();
-    lock.try_lock().unwrap();
+    assert_eq!(unsafe { flock(std::os::unix::io::AsRawFd::as_raw_fd(&lock), 2 | 4) }, 0);
     assert!(matches!(
         peers.save(&folder, Chain::Main),
         Err(SaveError::InUse)
@@ -293,7 +299,8 @@ fn a_folder_keeps_the_bans() {
     assert!(matches!(bans.save(&folder), Err(SaveError::Io(_))));
     std::fs::remove_dir_all(&folder).unwrap();
     assert!(matches!(bans.save(&folder), Err(SaveError::Io(_))));
-    assert!(Bans::load(&folder).unwrap().is_none());
+    let missing = |error: &std::io::Error| error.kind() == std::io::ErrorKind::NotFound;
+    assert!(matches!(Bans::load(&folder), Err(BansError::Folder(error)) if missing(&error)));
 }
 
 /// The asmap of Bitcoin Core's own tests, whose checksum its functional test feature_asmap.py
@@ -371,12 +378,12 @@ fn all_that_ask_get_one_answer_for_21_hours() {
     // Whatever changes, the answer stays.
     bans.ban(&"0.0.0.0/3".parse().unwrap(), NOW, NOW + 200_000).unwrap();
     let again = ask(&mut peers, &bans, &request, NOW + 75_599);
-    assert!(again.is_ok_and(|payload| payload == first));
+    assert!(matches!(again, Ok(payload) if payload == first));
     let old = Request::new(Network::Ipv4, 0, Form::Addr);
     let old = ask(&mut peers, &bans, &old, NOW + 1).unwrap();
     assert_eq!(decode(Form::Addr, &old).unwrap().len(), entries.len());
     // After 27 hours there is a new one, without the banned peers, which are all.
-    assert!(ask(&mut peers, &bans, &request, NOW + 97_200).is_ok_and(|payload| payload == [0]));
+    assert!(matches!(ask(&mut peers, &bans, &request, NOW + 97_200), Ok(payload) if payload == [0]));
     // Others get an answer of their own, and trusted ones the times of the records.
     bans = Bans::new();
     let trusted = Request {
@@ -392,7 +399,7 @@ fn all_that_ask_get_one_answer_for_21_hours() {
         assert!(ask(&mut peers, &bans, &request, NOW).is_ok());
     }
     let more = Request::new(Network::Onion, 64, Form::Addrv2);
-    assert!(ask(&mut peers, &bans, &more, NOW).is_err_and(|error| error == AnswerError::NoRoom));
+    assert!(matches!(ask(&mut peers, &bans, &more, NOW), Err(AnswerError::NoRoom)));
     answers.forget();
     assert!(answers.answer(&mut peers, &bans, &more, NOW, &mut rng).is_ok());
 }

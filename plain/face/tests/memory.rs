@@ -1,5 +1,7 @@
 //! Each allocation of a node's calls fails in turn.
 
+#![deny(unsafe_op_in_unsafe_fn)]
+
 use addrman::{
     AddError, AddrMan, Address, AnswerError, Answers, Asmap, Bans, BansError, Chain, CompileError,
     DecompileError, EncodeError, Entry, Form, Limiter, LoadError, Memory, MessageError, Network,
@@ -61,9 +63,9 @@ static ALLOCATOR: Failing = Failing;
 /// Calls with fewer and fewer allocations refused, until none is. Returns how many it takes.
 fn each<T>(mut call: impl FnMut() -> Result<T, ()>) -> usize {
     for count in 0.. {
-        LEFT.set(Some(count));
+        LEFT.with(|cell| cell.set(Some(count)));
         let result = call();
-        let refused = LEFT.replace(None) == Some(0);
+        let refused = LEFT.with(|cell| cell.replace(None)) == Some(0);
         match result {
             Ok(_) => return count,
             Err(()) => assert!(refused, "out of memory, and there was some"),
@@ -151,13 +153,13 @@ fn each_call_says_that_memory_ran_out() {
 
 /// The entries of a message, read with memory to spare.
 fn entries_of(payload: &[u8]) -> Vec<Entry> {
-    let left = LEFT.replace(None);
+    let left = LEFT.with(|cell| cell.replace(None));
     let entries = decode(Form::Addrv2, payload)
         .unwrap()
         .into_iter()
         .flatten()
         .collect();
-    LEFT.set(left);
+    LEFT.with(|cell| cell.set(left));
     entries
 }
 

@@ -1,5 +1,7 @@
 //! An allocator that fails at one call, for tests of what is done then.
 
+#![deny(unsafe_op_in_unsafe_fn)]
+
 use std::alloc::{GlobalAlloc, Layout, System};
 use std::cell::Cell;
 use std::ptr::null_mut;
@@ -51,9 +53,9 @@ unsafe impl GlobalAlloc for Failing {
 pub fn each<T>(mut work: impl FnMut() -> T) -> Vec<T> {
     let mut outcomes = Vec::new();
     loop {
-        LEFT.set(Some(outcomes.len()));
+        LEFT.with(|left| left.set(Some(outcomes.len())));
         let outcome = work();
-        let none_failed = LEFT.replace(None).is_some();
+        let none_failed = LEFT.with(|left| left.replace(None)).is_some();
         outcomes.push(outcome);
         if none_failed {
             return outcomes;

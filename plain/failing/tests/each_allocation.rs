@@ -23,7 +23,7 @@ fn done<T, E: Debug>(
     let last = outcomes.pop().expect("the work is done once at least");
     assert_eq!(outcomes.len(), count);
     for outcome in outcomes {
-        assert!(outcome.err().is_some_and(|error| is_memory(&error)));
+        assert!(outcome.err().map_or(false, |error| is_memory(&error)));
     }
     last.expect("there is memory for all")
 }
@@ -176,6 +176,6 @@ fn printed_json_is_refused() {
     assert!(!failed.is_empty() && failed.iter().all(|outcome| outcome.is_err()));
     assert!(
         last.as_ref()
-            .is_ok_and(|text| text.starts_with(b"{\n  \"name\""))
+            .map_or(false, |text| text.starts_with(b"{\n  \"name\""))
     );
 }

@@ -1,5 +1,7 @@
 //! The calls of the crate `hex`, where one that finds no memory returns an error.
 
+#![deny(unsafe_op_in_unsafe_fn)]
+
 use plain_std::alloc::{AllocError, Global};
 use plain_std::string::String;
 use plain_std::vec::Vec;
@@ -46,7 +48,7 @@ fn value_of(digit: u8, index: usize) -> Result<u8, FromHexError> {
 /// Decodes a text into bytes, of which there are half as many.
 pub fn decode_to_slice<T: AsRef<[u8]>>(text: T, out: &mut [u8]) -> Result<(), FromHexError> {
     let text = text.as_ref();
-    if !text.len().is_multiple_of(2) {
+    if text.len() % 2 != 0 {
         return Err(FromHexError::OddLength);
     }
     if text.len() / 2 != out.len() {

@@ -2,6 +2,8 @@
 //! itself has no call that tries to insert; this is made as it is, of a list of the entries and a
 //! table of their positions, which is that of the crate `hashbrown`.
 
+#![deny(unsafe_op_in_unsafe_fn)]
+
 use hashbrown::raw::RawTable;
 use plain_std::alloc::{AllocError, AllocFailed, Global};
 use plain_std::hash::{BuildHasher, BuildHasherDefault, FoldHasher, Hash};
@@ -79,7 +81,7 @@ impl<K: Hash + Eq, V, S: BuildHasher> IndexMap<K, V, S> {
                 value: (key, value),
             });
         }
-        let hash = self.hasher.hash_one(&key);
+        let hash = one_hash(&self.hasher, &key);
         let entries = &self.entries;
         self.positions
             .insert(hash, entries.len(), |at| entries[*at].hash);
@@ -94,7 +96,7 @@ impl<K: Hash + Eq, V, S: BuildHasher> IndexMap<K, V, S> {
     {
         let is_key = |at: &usize| self.entries[*at].key.borrow() == key;
         self.positions
-            .get(self.hasher.hash_one(key), is_key)
+            .get(one_hash(&self.hasher, key), is_key)
             .copied()
     }
 
@@ -330,4 +332,10 @@ mod tests {
             assert_eq!(map.contains_key(key), at % 3 != 0);
         }
     }
+}
+
+fn one_hash<S: BuildHasher, Q: std::hash::Hash + ?Sized>(hasher: &S, key: &Q) -> u64 {
+    let mut one = hasher.build_hasher();
+    key.hash(&mut one);
+    std::hash::Hasher::finish(&one)
 }

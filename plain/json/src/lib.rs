@@ -1,6 +1,8 @@
 //! Writing JSON with a line for each item and member, a token at a time, or without spaces, and
 //! reading it as a tree.
 
+#![deny(unsafe_op_in_unsafe_fn)]
+
 mod read;
 mod write;
 

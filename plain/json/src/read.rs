@@ -287,9 +287,9 @@ impl<'a> Reader<'a> {
         if is_plain {
             return Ok(&self.text[start..end]);
         }
-        let [end, later @ ..] = self.ends else {
+        let (end, later) = match self.ends { [end, later @ ..] => (end, later), _ => {
             return Err(Error::Invalid);
-        };
+        } };
         let text = &self.plain[self.start..*end];
         (self.start, self.ends) = (*end, later);
         Ok(text)
@@ -344,13 +344,13 @@ mod tests {
         let text =
             br#" {"a\n": [1, -0.5e+3, true, null, {}], "b": "\u00e9\ud83d\ude00\\", "b": "c"} "#;
         let value = Value::from_slice(Global, text, &mut scratch).unwrap();
-        let Value::Object(members) = &value else {
+        let members = match &value { Value::Object(members) => members, _ => {
             panic!()
-        };
+        } };
         assert_eq!(members[0].0, "a\n");
-        let Value::Array(items) = &members[0].1 else {
+        let items = match &members[0].1 { Value::Array(items) => items, _ => {
             panic!()
-        };
+        } };
         assert_eq!(items.len(), 5);
         assert_eq!(items[1].as_number(), Some("-0.5e+3"));
         assert_eq!(members[1].1.as_str(), Some("\u{e9}\u{1f600}\\"));

@@ -1,5 +1,7 @@
 //! The traits of random generators, as the crate `rand_core` 0.10 has them.
 
+#![deny(unsafe_op_in_unsafe_fn)]
+
 /// A generator.
 pub trait Rng {
     /// Returns the next 32 bits.

@@ -1,5 +1,7 @@
 //! xoshiro256++ by the crate `rand_xoshiro`.
 
+#![deny(unsafe_op_in_unsafe_fn)]
+
 use plain_rand_core::utils::NextWord;
 use plain_rand_core::{Rng, SeedableRng};
 

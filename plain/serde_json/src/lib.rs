@@ -2,6 +2,8 @@
 //! The tests compare both. The place of an error is that which Rattle's crate of this name gives: the
 //! start of the token that is refused, or of the next one after a token in a wrong place.
 
+#![deny(unsafe_op_in_unsafe_fn)]
+
 mod print;
 mod read;
 mod tokens;

@@ -40,7 +40,7 @@ impl Write for Digits {
 fn write_float(f: &mut Formatter<'_>, number: f64) -> Result {
     let mut text = Digits::default();
     write!(text, "{:e}", number.abs())?;
-    let text = str::from_utf8(&text.bytes[..text.length]).map_err(|_| Error)?;
+    let text = std::str::from_utf8(&text.bytes[..text.length]).map_err(|_| Error)?;
     let (mantissa, exponent) = text.split_once('e').ok_or(Error)?;
     let exponent: i32 = exponent.parse().map_err(|_| Error)?;
     let (first, rest) = mantissa.split_at(1);
@@ -49,7 +49,7 @@ fn write_float(f: &mut Formatter<'_>, number: f64) -> Result {
         f.write_char('-')?;
     }
     match exponent {
-        -5..0 => {
+        -5..=-1 => {
             f.write_str("0.")?;
             for _ in exponent..-1 {
                 f.write_char('0')?;
@@ -57,7 +57,7 @@ fn write_float(f: &mut Formatter<'_>, number: f64) -> Result {
             f.write_str(first)?;
             f.write_str(rest)
         }
-        0..16 => {
+        0..=15 => {
             let whole = exponent as usize;
             f.write_str(first)?;
             for index in 0..whole {

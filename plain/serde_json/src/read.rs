@@ -10,7 +10,7 @@ const MAX_DEPTH: usize = 127;
 
 /// Reads a value that all of the text spells.
 pub(crate) fn value_of(bytes: &[u8]) -> Result<Value, Error> {
-    let text = str::from_utf8(bytes).map_err(|error| Error::at(bytes, error.valid_up_to()))?;
+    let text = std::str::from_utf8(bytes).map_err(|error| Error::at(bytes, error.valid_up_to()))?;
     let mut reader = Reader::new(text);
     let value = read(&mut reader, MAX_DEPTH)?;
     if reader.is_at_end() {

@@ -181,9 +181,9 @@ impl<'a> Reader<'a> {
     }
 
     fn string(&mut self) -> Result<Token, Error> {
-        let Some((text, end)) = self.content(self.at + 1)? else {
+        let (text, end) = match self.content(self.at + 1)? { Some((text, end)) => (text, end), _ => {
             return Err(self.fault());
-        };
+        } };
         self.go_to(end);
         if self.byte_at(self.at) == Some(b':') {
             self.go_to(self.at + 1);
@@ -208,9 +208,9 @@ impl<'a> Reader<'a> {
                 Some(b'\\') => {}
                 _ => return Ok(None),
             }
-            let Some((character, end)) = self.escape(at + 1) else {
+            let (character, end) = match self.escape(at + 1) { Some((character, end)) => (character, end), _ => {
                 return Ok(None);
-            };
+            } };
             text.push(character)?;
             at = end;
         }
@@ -264,7 +264,7 @@ fn number_of(text: &str, is_whole: bool) -> Option<Number> {
         if let Ok(number) = text.parse() {
             return Some(Number::Positive(number));
         }
-        if let Ok(number @ ..0) = text.parse() {
+        if let Ok(number @ i64::MIN..=-1) = text.parse() {
             return Some(Number::Negative(number));
         }
     }

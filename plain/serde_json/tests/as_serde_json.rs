@@ -29,7 +29,7 @@ fn same(ours: &Value, theirs: &serde_json::Value) -> bool {
                 theirs.is_f64()
                     && theirs
                         .as_f64()
-                        .is_some_and(|f| f.to_bits() == ours.to_bits())
+                        .map_or(false, |f| f.to_bits() == ours.to_bits())
             }
         },
         (Value::String(ours), serde_json::Value::String(theirs)) => ours.as_str() == theirs,
@@ -38,7 +38,7 @@ fn same(ours: &Value, theirs: &serde_json::Value) -> bool {
         }
         (Value::Object(_), serde_json::Value::Object(theirs)) => theirs
             .iter()
-            .all(|(name, value)| ours.get(name).is_some_and(|own| same(own, value))),
+            .all(|(name, value)| ours.get(name).map_or(false, |own| same(own, value))),
         _ => false,
     }
 }

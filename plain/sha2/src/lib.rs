@@ -1,6 +1,8 @@
 //! SHA-256 by the crate `sha2`, with arrays as results. It uses the processor's instructions for
 //! SHA-256 where there are any.
 
+#![deny(unsafe_op_in_unsafe_fn)]
+
 use sha2::Digest as _;
 
 /// A hash under way.

@@ -1,6 +1,8 @@
 //! The calls of the crate `slab`, where one that finds no memory returns an error. A key that was
 //! removed last is given out first, as there.
 
+#![deny(unsafe_op_in_unsafe_fn)]
+
 use plain_std::alloc::{AllocError, AllocFailed, Global};
 use plain_std::vec::Vec;
 use std::ops::{Index, IndexMut};
@@ -64,9 +66,9 @@ impl<T> Slab<T> {
     /// If the key has no value.
     pub fn remove(&mut self, key: usize) -> T {
         let entry = &mut self.entries[key];
-        let Entry::Occupied(value) = std::mem::replace(entry, Entry::Vacant(self.next)) else {
+        let value = match std::mem::replace(entry, Entry::Vacant(self.next)) { Entry::Occupied(value) => value, _ => {
             panic!("the key has no value");
-        };
+        } };
         self.next = key;
         self.len -= 1;
         value

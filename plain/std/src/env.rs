@@ -5,9 +5,11 @@ use crate::rt::Env;
 use crate::string::String;
 use crate::vec::Vec;
 #[cfg(unix)]
-use std::ffi::{CStr, c_char, c_int};
+use std::ffi::CStr;
 #[cfg(unix)]
-use std::sync::OnceLock;
+use std::os::raw::{c_char, c_int};
+#[cfg(unix)]
+use std::sync::atomic::{AtomicPtr, AtomicUsize, Ordering};
 
 /// The arguments, with the program's name first. One that is not UTF-8 is an error.
 ///
@@ -24,22 +26,14 @@ pub fn args<R: Env>(rt: &R) -> io::Result<std::vec::IntoIter<String>> {
 ///
 /// Those of the system, if the folder cannot be entered.
 pub fn set_current_dir<R: Env>(_rt: &R, path: &str) -> io::Result<()> {
-    Ok(std::env::set_current_dir(path)?)
+    Ok(crate::paths::enter(path)?)
 }
 
 /// The arguments as C's `main` got them.
 #[cfg(unix)]
-struct Words(*const *const c_char, usize);
-
-// SAFETY: the arguments are written before `main`, and never after.
+static WORDS: AtomicPtr<*const c_char> = AtomicPtr::new(std::ptr::null_mut());
 #[cfg(unix)]
-unsafe impl Send for Words {}
-// SAFETY: as above.
-#[cfg(unix)]
-unsafe impl Sync for Words {}
-
-#[cfg(unix)]
-static WORDS: OnceLock<Words> = OnceLock::new();
+static COUNT: AtomicUsize = AtomicUsize::new(0);
 
 /// Keeps the arguments that C's `main` got. Rust's start-up, which is not run, would.
 ///
@@ -48,17 +42,16 @@ static WORDS: OnceLock<Words> = OnceLock::new();
 /// `words` points to `count` C strings that live as long as the process.
 #[cfg(unix)]
 pub unsafe fn keep(count: c_int, words: *const *const c_char) {
-    let _ = WORDS.set(Words(words, usize::try_from(count).unwrap_or(0)));
+    WORDS.store(words as *mut _, Ordering::Release);
+    COUNT.store(usize::try_from(count).unwrap_or(0), Ordering::Release);
 }
 
 /// Copies the arguments.
 #[cfg(unix)]
 pub(crate) fn all() -> io::Result<Vec<String>> {
     let mut all = Vec::new(crate::alloc::Global);
-    let Some(Words(words, count)) = WORDS.get() else {
-        return Ok(all);
-    };
-    for index in 0..*count {
+    let (words, count) = (WORDS.load(Ordering::Acquire), COUNT.load(Ordering::Acquire));
+    for index in 0..count {
         // SAFETY: `keep` had `count` C strings.
         let word = unsafe { CStr::from_ptr(*words.add(index)) };
         let text = word.to_str().map_err(|_| io::ErrorKind::InvalidData)?;

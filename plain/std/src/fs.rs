@@ -7,7 +7,16 @@ use crate::string::String;
 use crate::vec::Vec;
 use std::io::{Read as _, Seek as _, Write as _};
 
-pub use std::fs::{Permissions, TryLockError};
+pub use std::fs::Permissions;
+
+/// Why a file is not locked.
+#[derive(Debug)]
+pub enum TryLockError {
+    /// A fault of the system.
+    Error(std::io::Error),
+    /// Another has locked it.
+    WouldBlock,
+}
 
 /// What is known of a file.
 #[derive(Clone, Debug)]
@@ -27,6 +36,16 @@ impl Metadata {
         }
     }
 
+    /// Returns what is known of a file of one kind or another.
+    #[cfg(unix)]
+    pub(crate) fn of(is_file: bool, is_dir: bool, len: u64) -> Metadata {
+        Metadata {
+            is_file,
+            is_dir,
+            len,
+        }
+    }
+
     /// Returns whether it is a regular file.
     pub fn is_file(&self) -> bool {
         self.is_file
@@ -38,7 +57,7 @@ impl Metadata {
     }
 
     /// Returns the size in bytes.
-    #[expect(clippy::len_without_is_empty, reason = "std's has none")]
+    #[allow(clippy::len_without_is_empty)]
     pub fn len(&self) -> u64 {
         self.len
     }
@@ -66,7 +85,16 @@ impl File {
 
     /// Locks the file, unless another process has.
     pub fn try_lock(&self) -> Result<(), TryLockError> {
-        self.0.try_lock()
+        use std::os::unix::io::AsRawFd;
+        // SAFETY: the descriptor is open.
+        if unsafe { libc::flock(self.0.as_raw_fd(), libc::LOCK_EX | libc::LOCK_NB) } == 0 {
+            return Ok(());
+        }
+        let error = std::io::Error::last_os_error();
+        match error.kind() {
+            std::io::ErrorKind::WouldBlock => Err(TryLockError::WouldBlock),
+            _ => Err(TryLockError::Error(error)),
+        }
     }
 }
 
@@ -187,15 +215,36 @@ impl OpenOptions {
     }
 
     /// Returns the options as those of std.
-    pub fn of_std(&self) -> std::fs::OpenOptions {
+    #[cfg(not(unix))]
+    pub(crate) fn of_std(&self) -> std::fs::OpenOptions {
         let mut how = std::fs::OpenOptions::new();
         how.read(self.read).write(self.write).append(self.append);
         how.truncate(self.truncate)
             .create(self.create)
             .create_new(self.create_new);
-        #[cfg(unix)]
-        std::os::unix::fs::OpenOptionsExt::mode(&mut how, self.mode);
         how
+    }
+
+    /// Returns the options as the flags of C's `open`.
+    #[cfg(unix)]
+    pub(crate) fn unix_flags(&self) -> libc::c_int {
+        let access = match (self.read, self.write || self.append) {
+            (true, true) => libc::O_RDWR,
+            (false, true) => libc::O_WRONLY,
+            (_, false) => libc::O_RDONLY,
+        };
+        let flag = |set: bool, flag: libc::c_int| if set { flag } else { 0 };
+        access
+            | flag(self.append, libc::O_APPEND)
+            | flag(self.truncate, libc::O_TRUNC)
+            | flag(self.create || self.create_new, libc::O_CREAT)
+            | flag(self.create_new, libc::O_EXCL)
+    }
+
+    /// Returns the permission bits of a file that is made, as C's `open` takes them.
+    #[cfg(unix)]
+    pub(crate) fn unix_mode(&self) -> libc::c_uint {
+        self.mode as libc::c_uint
     }
 }
 

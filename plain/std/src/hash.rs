@@ -126,9 +126,12 @@ impl Default for DefaultHasher {
 impl Hasher for DefaultHasher {
     #[inline]
     fn write(&mut self, bytes: &[u8]) {
-        let (words, rest) = bytes.as_chunks();
+        let words = bytes.chunks_exact(8);
+        let rest = words.remainder();
         for word in words {
-            self.part(u64::from_le_bytes(*word), 8);
+            let mut eight = [0; 8];
+            eight.copy_from_slice(word);
+            self.part(u64::from_le_bytes(eight), 8);
         }
         for byte in rest {
             self.part(u64::from(*byte), 1);
@@ -184,8 +187,13 @@ impl RandomState {
 
     /// Does the same, without a handle.
     pub fn of_process() -> RandomState {
-        let random = std::hash::RandomState::new();
-        RandomState(random.hash_one(1), random.hash_one(2))
+        let random = std::collections::hash_map::RandomState::new();
+        let one = |number: i32| {
+            let mut hasher = random.build_hasher();
+            std::hash::Hash::hash(&number, &mut hasher);
+            hasher.finish()
+        };
+        RandomState(one(1), one(2))
     }
 }
 
@@ -207,7 +215,7 @@ mod tests {
         let bytes: std::vec::Vec<u8> = (0..40).collect();
         for cut in 0..bytes.len() {
             for middle in 0..=cut {
-                let (mut own, mut std) = (DefaultHasher::new(), std::hash::DefaultHasher::new());
+                let (mut own, mut std) = (DefaultHasher::new(), std::collections::hash_map::DefaultHasher::new());
                 own.write(&bytes[..middle]);
                 own.write(&bytes[middle..cut]);
                 own.write_u64(7);

@@ -3,14 +3,20 @@
 use crate::alloc::{AllocError, AllocFailed};
 use crate::rt::Print;
 use std::fmt;
-use std::fs::TryLockError;
+use crate::fs::TryLockError;
 use std::io::{Read as _, Write as _};
 #[cfg(unix)]
 use std::mem::ManuallyDrop;
 #[cfg(unix)]
-use std::os::fd::FromRawFd;
+use std::os::unix::io::FromRawFd;
 
-pub use std::io::{ErrorKind, PipeReader, PipeWriter, SeekFrom};
+pub use std::io::{ErrorKind, SeekFrom};
+
+/// The end of a pipe that is read. There is none.
+pub enum PipeReader {}
+
+/// The end of a pipe that is written. There is none.
+pub enum PipeWriter {}
 
 /// An error of the system, by its number, or one of a kind.
 #[derive(Clone, Copy, Debug, PartialEq, Eq)]

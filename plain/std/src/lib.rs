@@ -6,6 +6,8 @@
 //!
 //! What can go wrong in these modules is not proved: they are read and tested like any Rust.
 
+#![deny(unsafe_op_in_unsafe_fn)]
+
 #[cfg(not(any(target_pointer_width = "64", feature = "narrow")))]
 compile_error!(
     "the proofs hold where a usize has 64 bits; on 32 bits the program is only tested, and the \
@@ -25,7 +27,11 @@ pub mod io;
 mod macros;
 pub mod os;
 pub mod path;
+#[cfg_attr(unix, path = "unix_paths.rs")]
+#[cfg_attr(not(unix), path = "std_paths.rs")]
+mod paths;
 pub mod process;
 pub mod rt;
 pub mod string;
 pub mod vec;
+pub mod younger;

@@ -62,11 +62,11 @@ macro_rules! eprint {
 macro_rules! entry {
     ($program:path) => {
         #[cfg(unix)]
-        #[unsafe(no_mangle)]
+        #[no_mangle]
         extern "C" fn main(
-            count: ::std::ffi::c_int,
-            words: *const *const ::std::ffi::c_char,
-        ) -> ::std::ffi::c_int {
+            count: ::std::os::raw::c_int,
+            words: *const *const ::std::os::raw::c_char,
+        ) -> ::std::os::raw::c_int {
             // SAFETY: these are the arguments that C gives its `main`.
             unsafe { $crate::env::keep(count, words) };
             $crate::process::run($program)

@@ -4,7 +4,7 @@ pub mod fd {
     //! File descriptors.
 
     #[cfg(unix)]
-    pub use std::os::fd::BorrowedFd;
+    pub use std::os::unix::io::BorrowedFd;
 
     /// A file descriptor, of which there are none here.
     #[cfg(not(unix))]

@@ -46,14 +46,8 @@ pub fn run<T: Termination>(program: impl FnOnce(HostRuntime) -> T) -> i32 {
 
 #[cfg(unix)]
 fn ignore_broken_pipes() {
-    unsafe extern "C" {
-        fn signal(number: std::ffi::c_int, handler: usize) -> usize;
-    }
-    /// The number of SIGPIPE, and the handler that ignores a signal, on every Unix that Rust has.
-    const SIGPIPE: std::ffi::c_int = 13;
-    const SIG_IGN: usize = 1;
-    // SAFETY: `signal` is a function of C, and no other thread runs yet.
-    unsafe { signal(SIGPIPE, SIG_IGN) };
+    // SAFETY: no other thread runs yet.
+    unsafe { libc::signal(libc::SIGPIPE, libc::SIG_IGN) };
 }
 
 #[cfg(not(unix))]

@@ -8,7 +8,7 @@ use crate::os::unix::net::SocketAddr;
 use crate::path::PathBuf;
 use crate::string::String;
 use crate::vec::Vec;
-use crate::{alloc::Allocator, env};
+use crate::{alloc::Allocator, env, paths};
 use std::fmt::{self, Display};
 
 /// The runtime of the process.
@@ -263,11 +263,11 @@ impl Files for HostRuntime {
     type Dir = io::Stdin;
 
     fn open_file(&self, how: &OpenOptions, path: &str) -> io::Result<fs::File> {
-        Ok(how.of_std().open(path)?.into())
+        Ok(paths::open(how, path)?.into())
     }
 
     fn metadata(&self, path: &str) -> io::Result<Metadata> {
-        Ok(std::fs::metadata(path)?.into())
+        Ok(paths::metadata(path)?)
     }
 
     fn symlink_metadata(&self, path: &str) -> io::Result<Metadata> {
@@ -279,15 +279,15 @@ impl Files for HostRuntime {
     }
 
     fn rename(&self, from: &str, to: &str) -> io::Result<()> {
-        Ok(std::fs::rename(from, to)?)
+        Ok(paths::rename(from, to)?)
     }
 
     fn remove_file(&self, path: &str) -> io::Result<()> {
-        Ok(std::fs::remove_file(path)?)
+        Ok(paths::remove_file(path)?)
     }
 
     fn create_dir(&self, path: &str) -> io::Result<()> {
-        Ok(std::fs::create_dir(path)?)
+        Ok(paths::create_dir(path)?)
     }
 
     fn remove_dir(&self, path: &str) -> io::Result<()> {

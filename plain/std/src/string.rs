@@ -172,9 +172,9 @@ mod tests {
     #[test]
     fn bytes_that_are_not_utf8_are_given_back() {
         let bytes = Vec::from_array(Global, [b'a', 0xff]).unwrap();
-        let Err(error) = String::from_utf8(bytes) else {
+        let error = match String::from_utf8(bytes) { Err(error) => error, _ => {
             panic!("they are not UTF-8");
-        };
+        } };
         assert_eq!(error.into_bytes().as_slice(), [b'a', 0xff]);
     }
 }

@@ -1,5 +1,7 @@
 //! The distance of texts, as the crate `strsim` has it, where memory may run out.
 
+#![deny(unsafe_op_in_unsafe_fn)]
+
 use plain_std::alloc::{AllocError, Global};
 use plain_std::vec::Vec;
 

@@ -40,7 +40,7 @@ fn is_each_found<H: BuildHasher>(index: &PeerIndex<H>, grid: &Grid) -> bool {
 
 /// Fills the grid and an index, and finds each record by its slot.
 fn is_full(alloc: Global, grid: &mut Grid) -> bool {
-    let hasher: BuildHasherDefault<FoldHasher> = BuildHasherDefault::new();
+    let hasher: BuildHasherDefault<FoldHasher> = BuildHasherDefault::default();
     let mut index = PeerIndex::make(alloc, hasher);
     fill(&mut index, grid) && is_each_found(&index, grid)
 }

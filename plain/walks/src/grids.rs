@@ -64,7 +64,7 @@ fn is_in_mask(grid: &Grid, number: u32) -> bool {
 fn written(choice: u32) -> u32 {
     let row = (choice / 8 % 8) as usize;
     let slot = PLACES[(choice % 8) as usize];
-    if (choice / 64).is_multiple_of(2) {
+    if (choice / 64) % 2 == 0 {
         NEW_BUCKETS[row] % 1024 * 64 + slot % 64
     } else {
         NEW_SLOTS + TRIED_BUCKETS[row] % 256 * 64 + slot % 64
@@ -101,7 +101,7 @@ fn is_same_written(grid: &Grid, list: &[Option<usize>]) -> bool {
 fn write(grid: &mut Grid, list: &mut [Option<usize>], words: &mut Xoshiro256PlusPlus) {
     let number = written(words.next_u32() % WRITTEN);
     let word = words.next_u64();
-    let id = if word.is_multiple_of(3) {
+    let id = if word % 3 == 0 {
         None
     } else {
         Some(word as usize)

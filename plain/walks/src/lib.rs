@@ -2,6 +2,8 @@
 //! containers, calls that run out of memory, tables of prefixes and their asmaps beside a walk over
 //! all rows, the largest of them and that of no rows, texts of records, printed and read, and the hasher of the library
 //! for C.
+
+#![deny(unsafe_op_in_unsafe_fn)]
 #![cfg(test)]
 
 mod entries;
@@ -37,30 +39,30 @@ static FAILING: Failing = Failing;
 /// Opens empty tables.
 fn open() -> Option<Tabled> {
     let placer = Placer::make([0; 32], None);
-    Tabled::open(Global, placer, BuildHasherDefault::new()).ok()
+    Tabled::open(Global, placer, BuildHasherDefault::default()).ok()
 }
 
 #[test]
 fn after_each_call_the_order_is_that_of_a_plain_list() {
-    let fold = BuildHasherDefault::<FoldHasher>::new();
+    let fold = BuildHasherDefault::<FoldHasher>::default();
     assert!(orders::is_as_a_list(Global, fold, 1));
 }
 
 #[test]
 fn it_is_so_under_a_hasher_whose_keys_collide() {
-    let classes = BuildHasherDefault::<FourClasses>::new();
+    let classes = BuildHasherDefault::<FourClasses>::default();
     assert!(orders::is_as_a_list(Global, classes, 2));
 }
 
 #[test]
 fn of_ten_thousand_records_those_that_stay_keep_their_ids() {
-    let fold = BuildHasherDefault::<FoldHasher>::new();
+    let fold = BuildHasherDefault::<FoldHasher>::default();
     assert!(known_orders::is_known_order(Global, fold));
 }
 
 #[test]
 fn ten_thousand_keep_them_too_under_another_hasher() {
-    let words = BuildHasherDefault::<LastWord>::new();
+    let words = BuildHasherDefault::<LastWord>::default();
     assert!(known_orders::is_known_order(Global, words));
 }
 
@@ -90,7 +92,7 @@ fn a_record_without_memory_leaves_list_and_ids_as_they_were() {
 #[test]
 fn an_entry_without_memory_leaves_the_tables_as_they_were() {
     for steady in
-        each(|| open().is_none_or(|mut tables| little_memory::leaves_the_tables(&mut tables)))
+        each(|| open().map_or(true, |mut tables| little_memory::leaves_the_tables(&mut tables)))
     {
         assert!(steady);
     }

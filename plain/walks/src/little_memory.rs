@@ -35,7 +35,7 @@ fn is_steady_index(
 /// Whether a record without memory leaves an index as it was.
 pub(crate) fn leaves_the_index(alloc: Global) -> bool {
     let mut list = Vec::new(alloc);
-    let mut index = PeerIndex::make(alloc, BuildHasherDefault::new());
+    let mut index = PeerIndex::make(alloc, BuildHasherDefault::default());
     is_steady_index(&mut index, &mut list)
 }
 

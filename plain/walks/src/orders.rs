@@ -29,10 +29,10 @@ fn remove<H: BuildHasher>(index: &mut PeerIndex<H>, list: &mut Vec<Item>, number
 /// Replaces the peer's record in both, if they have one.
 fn set<H: BuildHasher>(index: &mut PeerIndex<H>, list: &mut Vec<Item>, (number, word): (u32, u64)) {
     let peer = peer_of(number);
-    if let Some(id) = index.find(&peer)
-        && index.get(id).peer == peer
-    {
-        index.set(id, record(peer, word));
+    if let Some(id) = index.find(&peer) {
+        if index.get(id).peer == peer {
+            index.set(id, record(peer, word));
+        }
     }
     for item in list.iter_mut() {
         if item.number == number {

@@ -26,7 +26,7 @@ fn next_row(random: &mut Xoshiro256PlusPlus, rows: &[Row]) -> Row {
     let asn = (word % 5) as u32 + 1;
     let pick = (word / 8) as usize;
     let bits = address(random);
-    if !word.is_multiple_of(3) && !rows.is_empty() {
+    if word % 3 != 0 && !rows.is_empty() {
         let around = rows[pick % rows.len()];
         let len = around.len.min(124) + (word / 16 % 4) as u8 + 1;
         let rest = bits & (u128::MAX - cut(u128::MAX, around.len));

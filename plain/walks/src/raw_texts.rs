@@ -87,12 +87,12 @@ fn are_rows<'t>(
 pub(crate) fn is_read_back(alloc: Global, seed: u64) -> bool {
     let mut random = Xoshiro256PlusPlus::seed_from_u64(seed);
     let placer = Placer::make([seed as u8; 32], None);
-    let mut tables = Tabled::open(alloc, placer, Hasher::new()).unwrap();
+    let mut tables = Tabled::open(alloc, placer, Hasher::default()).unwrap();
     fill(&mut tables, &mut random);
     let text = raw_text(alloc, &tables).unwrap();
-    let Ok(Raw { new, tried }) = read_raw(alloc, text.as_slice()) else {
+    let (new, tried) = match read_raw(alloc, text.as_slice()) { Ok(Raw { new, tried }) => (new, tried), _ => {
         return false;
-    };
+    } };
     !tried.items().is_empty()
         && are_rows(new.items(), 1024, |bucket, slot| {
             tables.new_rec_at(bucket, slot)

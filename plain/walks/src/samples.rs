@@ -13,7 +13,7 @@ pub(crate) fn peer_of(number: u32) -> Peer {
 
 // One of the two places.
 fn place_of(word: u64) -> Place {
-    if word.is_multiple_of(2) {
+    if word % 2 == 0 {
         Place::Tried
     } else {
         Place::New(Buckets::one((word % 1024) as u16))

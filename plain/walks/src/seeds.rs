@@ -1,5 +1,6 @@
 use c_handles::Keyed;
-use std::hash::{BuildHasher, DefaultHasher, Hasher};
+use std::collections::hash_map::DefaultHasher;
+use std::hash::{BuildHasher, Hasher};
 
 #[test]
 fn a_hasher_is_given_both_of_its_keys_in_order() {
@@ -9,7 +10,9 @@ fn a_hasher_is_given_both_of_its_keys_in_order() {
         for number in [keys[0], keys[1], 77] {
             own.write_u64(number);
         }
-        let hash = Keyed::of(&keys).hash_one(77_u64);
+        let mut keyed = Keyed::of(&keys).build_hasher();
+        keyed.write_u64(77);
+        let hash = keyed.finish();
         assert_eq!(hash, own.finish());
         assert!(!hashes.contains(&hash));
         hashes.push(hash);

@@ -2,7 +2,7 @@ use Rattle.std.proofs.Common.{rules, ℕ, ◌≡◌, ◌<◌, ◌≤◌, ◌∙�
 use Rattle.peer_rec.specs.Snapshot.{Snapshot, snapshot}
 use Rattle.peer_rec.specs.declared.file_rec.FileRec.{FileRec}
 use Rattle.std.proofs.lemmas.List.{length-map}
-use Rattle.raw_file.specs.Listing.{firsts, new_recs, pair_of, peers_of, recs_of}
+use Rattle.raw_file.specs.Listing.{firsts, new_recs, pair_of, peers_of, recs_of, tried_of}
 use Rattle.raw_file.proofs.Agains.{new_fault, no_fault, tried_fault}
 use Rattle.raw_file.proofs.Facts.{fits}
 use Rattle.raw_file.proofs.listing.snapshot_of.Goals as goal
@@ -14,7 +14,7 @@ make-requires-clause-few_new c =
 
 pub make-requires-clause-few_tried : goal.make-requires-clause-few_tried
 make-requires-clause-few_tried c =
-    let trieds : c.of-tried_recs.result ≡ recs_of c.args.raw.now.tried = c.of-tried_recs.ensures ∙ c.in_ok-tried.ensures ∙ ap recs_of c.items-tried_rows.ensures in
+    let trieds : c.of-tried_recs.result ≡ tried_of c.args.raw.now.tried = c.of-tried_recs.ensures ∙ c.in_ok-tried.ensures ∙ ap tried_of c.items-tried_rows.ensures in
     subst (λ (rs : List FileRec). length rs ≤ 16384) (sym trieds) (fits c.args.raw.now c.requires).few_tried
 
 pub make-requires-clause-new_attempts : goal.make-requires-clause-new_attempts
@@ -24,7 +24,7 @@ make-requires-clause-new_attempts c =
 
 pub make-requires-clause-tried_attempts : goal.make-requires-clause-tried_attempts
 make-requires-clause-tried_attempts c =
-    let trieds : c.of-tried_recs.result ≡ recs_of c.args.raw.now.tried = c.of-tried_recs.ensures ∙ c.in_ok-tried.ensures ∙ ap recs_of c.items-tried_rows.ensures in
+    let trieds : c.of-tried_recs.result ≡ tried_of c.args.raw.now.tried = c.of-tried_recs.ensures ∙ c.in_ok-tried.ensures ∙ ap tried_of c.items-tried_rows.ensures in
     subst (All (λ (r : FileRec). r.attempts ≤ 2147483647)) (sym trieds) (fits c.args.raw.now c.requires).tried_attempts
 
 pub make-requires-clause-buckets : goal.make-requires-clause-buckets
@@ -66,7 +66,7 @@ pub returns-clause-snapshot : goal.returns-clause-snapshot
 returns-clause-snapshot c =
     let same : c.in-Ok.recs.items ≡ new_recs c.args.raw.now = c.in-Ok.ensures.recs ∙ ap (λ rows. firsts (recs_of rows)) c.items-rows.ensures in
     let news : c.of-new_recs.result ≡ new_recs c.args.raw.now = c.of-new_recs.ensures ∙ same in
-    let trieds : c.of-tried_recs.result ≡ recs_of c.args.raw.now.tried = c.of-tried_recs.ensures ∙ c.in_ok-tried.ensures ∙ ap recs_of c.items-tried_rows.ensures in
+    let trieds : c.of-tried_recs.result ≡ tried_of c.args.raw.now.tried = c.of-tried_recs.ensures ∙ c.in_ok-tried.ensures ∙ ap tried_of c.items-tried_rows.ensures in
     let listed : c.of-listed.result ≡ map (pair_of (new_recs c.args.raw.now)) c.args.raw.now.new = c.of-listed.ensures ∙ c.in_ok-pairs.ensures c.in-Ok.recs.items c.in-Ok.ensures.peers ∙ (λ i. map (pair_of (same i)) (c.items-rows.ensures i)) in
     let count : c.from.result ≡ 1024 = search rules in
     c.make.ensures ∙ (λ i. snapshot c.args.key (news i) (trieds i) (count i) (listed i) c.args.sum)

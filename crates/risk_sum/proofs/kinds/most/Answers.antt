@@ -10,10 +10,10 @@ loop-preserved c = record {
       c.part-sum.result c.part-left.result c.next_factor-factor.result c.loop-test.true
       (c.part-sum.ensures.is ∙ ap (λ k. rounded_up (c.loop.left * k) (c.starts-busy.result * 1073741824)) c.taken.ensures.is)
       (c.part-left.ensures.is ∙ ap (λ k. rounded_up (c.loop.left * k) (c.starts-busy.result * 1073741824)) c.refused.ensures.is)
-      c.next_factor-factor.ensures.is c.loop.invariant.value;
+      c.next_factor-factor.ensures.value c.loop.invariant.value;
   low = lower c.part-left.ensures.most c.loop.invariant.low;
   few = added c.loop.sum c.part-sum.result c.loop.counter c.loop.left c.loop.invariant.few c.part-sum.ensures.most c.loop.invariant.low;
-  factor = c.next_factor-factor.ensures.most;
+  factor = c.next_factor-factor.ensures.max;
 }
 
 pub returns : goal.returns

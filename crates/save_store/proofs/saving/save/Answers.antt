@@ -1,3 +1,7 @@
+use Rattle.std.proofs.Common.{◌∙◌, ap}
+use Rattle.host_io.specs.Calls.{calls_to_publish}
+use Rattle.save_store.proofs.Asked.{then}
+use Rattle.save_store.proofs.Results.{ok_then}
 use Rattle.save_store.proofs.Published.{not_written, written_first}
 use Rattle.save_store.proofs.Temp.{some_synced}
 use Rattle.save_store.proofs.saving.save.Goals as goal
@@ -26,3 +30,16 @@ pub returns-clause-stored : goal.returns-clause-stored
 returns-clause-stored g c =
     c.publish.ensures.stored c.args.bytes.now
     c.in_ok-write_temp.ensures.synced
+
+pub returns-in_err-write_temp-clause-asks : goal.returns-in_err-write_temp-clause-asks
+returns-in_err-write_temp-clause-asks g c = c.write_temp.ensures.asks c.args.name
+
+pub returns-clause-asks : goal.returns-clause-asks
+returns-clause-asks g c =
+    then c.args.temp c.args.name _ _ _ (c.write_temp.ensures.asks c.args.name)
+    c.publish.ensures.asks
+
+pub returns-clause-order : goal.returns-clause-order
+returns-clause-order g c =
+    ok_then c.publish.result _ _ c.publish.ensures.order
+    (λ last. last ∙ ap (calls_to_publish c.args.temp c.args.name) c.in_ok-write_temp.ensures.order)

@@ -1,4 +1,5 @@
 use Rattle.std.proofs.Common.{rules}
+use Rattle.host_io.specs.declared.name.Name.TheVariants.{Peers}
 use Rattle.session_saves.proofs.Effects.{begin_failed, save_begun}
 use Rattle.session_saves.proofs.events.begin_line.Goals as goal
 
@@ -12,3 +13,6 @@ pub returns-in-Err-clause-effect : goal.returns-in-Err-clause-effect
 returns-in-Err-clause-effect g c =
     let P = g.F.Folder.past in
     begin_failed c.args.file (P c.args.folder.now) (P c.begin.new.folder) _ _ c.begin.ensures.any_moment c.in-Err.ensures.cause
+
+pub returns-in-Err-clause-asks : goal.returns-in-Err-clause-asks
+returns-in-Err-clause-asks g c = c.begin.ensures.asks Peers

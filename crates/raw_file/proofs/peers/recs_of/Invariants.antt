@@ -1,6 +1,0 @@
-use Rattle.std.proofs.Common.{◌≡◌, take}
-use Rattle.raw_file.specs.Listing.{recs_of}
-use Rattle.raw_file.proofs.peers.recs_of.Given as goal
-
-abbrev pub invariant-loop-row : goal.invariant-loop-row
-invariant-loop-row l = l.recs.items ≡ recs_of (take l.row-index l.rows)
