@@ -18,6 +18,7 @@ from . import draw
 from .evaluate import Definitions
 from .judge import Judge, Judgement, run_program
 from .machine import Replay, TooLong, load, with_room, within
+from .solve import holds
 
 HERE = os.path.dirname(os.path.dirname(os.path.abspath(__file__)))
 
@@ -126,13 +127,19 @@ def asmap_inputs(definitions: Definitions, seed: int, count: int) -> Iterator[In
         return con('Match', values.listed(wanted), drawn_tree(depth - 1))
 
     for i in range(count):
-        tree = drawn_tree(3)
-        bits = [values.force(b) for b in values.items(definitions.call('asmap_vm.Code.code', tree))]
-        bits += [False] * (-len(bits) % 8 + draws.choice([0, 0, 0, 8]))
+        # every fourth file is sane but for eight bits of padding; others end as they should
+        for _ in range(60):
+            tree = drawn_tree(3)
+            code = definitions.call('asmap_vm.Code.code', tree)
+            bits = [values.force(b) for b in values.items(code)]
+            sane = holds([values.apply(definitions.value('asmap_vm.Code.IsSane'), tree)])
+            if i % 4 == 1 or sane and (i % 4 or len(bits) % 8 == 0):
+                break
+        bits += [False] * (-len(bits) % 8 + (0 if i % 4 else 8))
         data = bytes(sum(b << k for k, b in enumerate(bits[j:j + 8])) for j in range(0, len(bits), 8))
-        if draws.random() < 0.2:
+        if i % 4 and draws.random() < 0.2:
             data = data[:-1] + bytes([data[-1] | 128])
-        words = ['check'] if i % 2 else ['lookup', draws.choice(['1.2.3.4:1', '[2a01:4f8::1]:1'])]
+        words = ['check'] if i % 3 else ['lookup', draws.choice(['1.2.3.4:1', '[2a01:4f8::1]:1'])]
         yield Input(f'asmap {seed}.{i}', words, b'', {'asmap.dat': data})
 
 
