@@ -15,7 +15,7 @@ use tables::{Memory, Tables};
 use taking::{Added, MessageFault};
 
 /// Does what `take_message` does with the entries of a message that a node has a use for. They are
-/// shuffled, and at most `most` of them are let through, the first ones. Of these the others are
+/// shuffled, and at most `max` of them are let through, the first ones. Of these the others are
 /// skipped: those that have none of the services of a mask, and those whose network is not in
 /// `nets` (`ProcessMessage` in net_processing.cpp of Bitcoin Core, where a mask has the bits of
 /// `NODE_NETWORK` and `NODE_NETWORK_LIMITED`, 0x401). The first random words are for the shuffle,
