@@ -120,6 +120,15 @@ class Node:
         self.tried[slot] = number
         self.new_count, self.tried_count = self.new_count - 1, self.tried_count + 1
 
+    def file(self, magic=MAGIC):
+        """`Serialize`."""
+        numbers = [number for number, info in self.infos.items() if not info.is_tried]
+        index, lists = {number: at for at, number in enumerate(numbers)}, {}
+        for (bucket, _), number in sorted(self.new.items()):
+            lists.setdefault(bucket, []).append(index[number])
+        tried = [info for info in self.infos.values() if info.is_tried]
+        return written(self.key, [self.infos[number] for number in numbers], tried, lists, self.groups.checksum(), magic=magic)
+
     def slots(self, describe):
         """What `getrawaddrman` says of the slots."""
         return {name: {f"{bucket}/{position}": describe(self.infos[number], self.groups)
@@ -127,9 +136,9 @@ class Node:
                 for name, table in (("new", self.new), ("tried", self.tried))}
 
 
-def written(key, new, tried, lists, checksum, buckets=1024):
+def written(key, new, tried, lists, checksum, buckets=1024, magic=MAGIC):
     """A file in format 4; `lists` has the indexes of new records by their bucket."""
-    data = MAGIC + bytes([4, 36]) + key + struct.pack("<iii", len(new), len(tried), buckets ^ 1 << 30)
+    data = magic + bytes([4, 36]) + key + struct.pack("<iii", len(new), len(tried), buckets ^ 1 << 30)
     data += b"".join(info.written() for info in new + tried)
     for bucket in range(buckets):
         indexes = lists.get(bucket, [])
@@ -256,10 +265,10 @@ def check(node):
         raise NotLoaded("check -16")
 
 
-def load(data, groups):
+def load(data, groups, magic=MAGIC):
     """The tables of a node that starts over a file."""
     stream = Stream(data)
-    if stream.take(4) != MAGIC:
+    if stream.take(4) != magic:
         raise NotLoaded("magic")
     node = restored(stream, groups)
     check(node)
