@@ -4,16 +4,14 @@ from __future__ import annotations
 import collections
 import concurrent.futures
 import os
-import random
 import subprocess
 import tempfile
 import time
 from dataclasses import dataclass, field
-from typing import Callable
 
 from . import draw
 from .machine import Replay, load, with_room
-from .values import Stuck, Undefined, octets
+from .values import Stuck, Undefined
 
 KEY = bytes(32)
 

@@ -7,11 +7,11 @@ from __future__ import annotations
 
 import ipaddress
 import random
-from typing import Any, Iterable
+from typing import Any
 
 from .evaluate import Definitions
 from .machine import Replay
-from .values import Con, Done, byte_list, elements, field, force, items, octets, plain
+from .values import Con, Done, byte_list, force, items, octets
 
 # Seconds after which a rule decides otherwise.
 LIMITS = [60, 600, 1200, 2400, 3600, 7200, 14400, 86400, 604800, 2592000]
@@ -139,8 +139,9 @@ class Drawing:
                 sixteen = bytes(10) + b'\xff\xff\x08\x08\x08\x08'
             return at + services.to_bytes(8, 'little') + sixteen + int(port).to_bytes(2, 'big')
         if self.random.random() < 0.08:
-            number, data = self.random.choice([(3, bytes(10)), (9, b'abc'), (2, bytes(10) + b'\xff\xff' + bytes(4)),
-                                               (9, bytes(512)), (9, bytes(513)), (4, bytes(31))])
+            number, data = self.random.choice([
+                (3, bytes(10)), (9, b'abc'), (2, bytes(10) + b'\xff\xff' + bytes(4)),
+                (9, bytes(512)), (9, bytes(513)), (4, bytes(31))])
         return at + compact(services) + bytes([number]) + compact(len(data)) + data \
             + int(port).to_bytes(2, 'big')
 

@@ -28,7 +28,8 @@ ROWS = {'asmap_vm': ['asmaps.txt', 'limits.txt'], 'log_run': ['pieces.txt', 'lon
         'peer_open': ['opener.txt', 'opener_rules.txt'],
         'picking': ['selects.txt', 'samples.txt', 'tables.txt', 'opener.txt'],
         'risk_parts': ['risk_tens.txt', 'risks.txt'], 'risk_sum': ['risks.txt', 'risk_tens.txt'],
-        'session_saves': ['saves.txt'], 'table_plan': ['restoring.txt', 'openings.txt', 'known_peers.txt', 'entries.txt'],
+        'session_saves': ['saves.txt'],
+        'table_plan': ['restoring.txt', 'openings.txt', 'known_peers.txt', 'entries.txt'],
         'table_risk': ['risks.txt', 'risk_tens.txt'],
         'tables': ['collisions.txt', 'entries.txt', 'tables.txt', 'restoring.txt'],
         'wire_num': ['messages.txt', 'peers_files.txt']}

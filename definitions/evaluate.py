@@ -13,7 +13,7 @@ from typing import Any, Callable
 
 from . import syntax, values
 from .syntax import (Apply, Bound, Build, Cases, If, Lambda, Let, Module, Name, Not, Number,
-                     Operation, Parametrised, Part, Path, Pattern, Text, Tree, Tuple)
+                     Operation, Part, Path, Pattern, Text, Tree, Tuple)
 from .values import (FALSE, NIL, TRUE, Con, Cons, Function, Prop, Thunk, Undefined, apply,
                      byte_list, field, force, need, settle)
 

@@ -8,8 +8,7 @@ from __future__ import annotations
 
 from typing import TYPE_CHECKING, Any, Callable
 
-from .values import (NIL, NONE, Cons, Function, Undefined, apply, elements, field, force, items,
-                     listed, some, walk)
+from .values import NIL, NONE, Cons, Undefined, apply, elements, field, force, items, some, walk
 
 if TYPE_CHECKING:
     from .evaluate import Definitions

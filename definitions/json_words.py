@@ -8,7 +8,7 @@ import json
 import math
 from typing import Any, Callable
 
-from .values import (FALSE, NIL, NONE, TRUE, Con, Prop, Undefined, apply, byte_list, elements, force,
+from .values import (FALSE, NONE, TRUE, Con, Prop, Undefined, apply, byte_list, elements, force,
                      items, listed, octets, some)
 
 CONSTRUCTORS = ['null', 'boolean', 'number', 'string', 'array', 'object', 'item', 'no_items', 'member',

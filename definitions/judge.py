@@ -13,8 +13,8 @@ from typing import Any
 
 from .evaluate import Definitions
 from .solve import solve
-from .values import (NIL, NONE, Con, Done, Prop, Stuck, Undefined, Var, apply, byte_list, force,
-                     listed, plain, settle, some, undo)
+from .values import (NIL, NONE, Con, Done, Prop, Stuck, Undefined, Var, apply, byte_list, listed,
+                     plain, settle, some, undo)
 
 NAMES = {'peers.dat': 'peers', 'peers.tmp': 'peers_temp', 'asmap.dat': 'asmap',
          'asmap.tmp': 'asmap_temp', 'asmap.old': 'asmap_old', 'prefixes.txt': 'prefixes',

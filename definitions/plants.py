@@ -76,7 +76,7 @@ PLANTS = [
     Plant('grammar/Fields', 'All (λ net. net ≢ Unroutable) nets', '(nets ≡ nets)',
           'select of unroutable addresses', ('tables.txt', 'lines.txt', 'line_faults.txt')),
     Plant('log_lines/Spelling', 'kinds_of v.Sample = u32_field ∷ Number 0 100',
-          'kinds_of v.Sample = u32_field ∷ Number 0 99', 'no sample of all', ('samples.txt',)),
+          'kinds_of v.Sample = u32_field ∷ Number 0 99', 'no sample of all'),
     Plant('log_lines/Replies', 'codes " of " ++ decimal total', 'codes " of " ++ decimal accepted',
           'the count that was accepted twice'),
     Plant('manager/Step', 'length words < length entries', 'length words ≤ length entries',

@@ -12,8 +12,9 @@ from . import values
 from .solve import INVERSES, equal, spell, unify
 from .evaluate import SOURCES, environment
 from .syntax import Apply, Name
-from .values import (FALSE, NIL, NONE, TRAIL, TRUE, Call, Con, Cons, Function, Nil, Prop, Stuck, Thunk, Var,
-                     apply, bind, elements, force, items, listed, numbers, octets, some, undo, walk)
+from .values import (FALSE, NIL, NONE, TRAIL, TRUE, Call, Con, Cons, Function, Nil, Prop, Stuck,
+                     Thunk, Var, apply, bind, elements, force, items, listed, numbers, octets, some,
+                     undo)
 
 N = force
 

@@ -9,7 +9,7 @@ from __future__ import annotations
 from typing import TYPE_CHECKING, Any, Callable, Iterator
 
 from .solve import unify
-from .values import NIL, TRAIL, Con, Function, Prop, apply, force, undo
+from .values import NIL, TRAIL, Function, Prop, apply, force, undo
 
 if TYPE_CHECKING:
     from .evaluate import Definitions

@@ -4,14 +4,13 @@ A goal that needs an unknown waits for others; a choice waits longer. If all wai
 tried with each form that the definition has that asked for it, or each variant of its type."""
 from __future__ import annotations
 
-from typing import Any, Callable, Iterable, Iterator
+from typing import Any, Callable, Iterator
 
 from . import syntax
 from .evaluate import PROPOSITIONS, SOURCES, Scope, environment
-from .syntax import Apply, Module, Name, Operation, Parametrised, Pattern, Text, Tree
-from .values import (NIL, TRAIL, Call, Con, Cons, Nil, Open, Prop, Stuck, Thunk, Undefined, Var, apply,
-                     bind, byte_list, elements, field, force, items, listed, numbers, peek, plain,
-                     undo, walk)
+from .syntax import Apply, Name, Operation, Parametrised, Pattern, Tree
+from .values import (NIL, TRAIL, Call, Con, Cons, Nil, Open, Prop, Stuck, Thunk, Undefined, Var,
+                     bind, field, force, items, listed, peek, plain, undo, walk)
 
 # Reads a text backwards: from an index on, what a word wrote there. (bytes, index, arguments) to
 # the indexes of the end.

@@ -8,8 +8,8 @@ from typing import Any, Callable
 from .evaluate import Definitions
 from .machine import TooLong, within
 from .solve import solve
-from .values import (NONE, Con, Done, Stuck, Undefined, Var, apply, byte_list, force, items, listed, numbers,
-                     octets, plain, some, undo)
+from .values import (NONE, Con, Done, Stuck, Undefined, Var, apply, byte_list, force, items, octets,
+                     some, undo)
 
 NETWORKS = {'ipv4': 'Ipv4', 'ipv6': 'Ipv6', 'onion': 'Onion', 'i2p': 'I2p', 'cjdns': 'Cjdns',
             'internal': 'Internal', 'unroutable': 'Unroutable'}

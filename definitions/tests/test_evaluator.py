@@ -4,15 +4,14 @@ from __future__ import annotations
 import os
 import random
 import unittest
-from typing import Any, Callable
+from typing import Callable
 
 from definitions import beside, draw
 from definitions.judge import Judge, Run
 from definitions.machine import Replay, load, with_room
 from definitions.solve import holds, solve
-from definitions.syntax import Apply, If, Module, Name, Operation, parse_expression
-from definitions.values import (Con, Prop, Stuck, Var, apply, byte_list, force, items, listed, octets,
-                                plain, settle, undo)
+from definitions.syntax import Module, Operation, parse_expression
+from definitions.values import Prop, Stuck, Var, apply, byte_list, force, octets, undo
 
 HERE = os.path.dirname(os.path.dirname(os.path.dirname(os.path.abspath(__file__))))
 CRATES = os.path.join(HERE, 'crates')

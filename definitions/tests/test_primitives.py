@@ -13,7 +13,7 @@ from definitions.evaluate import Definitions
 from definitions.json_words import JSON
 from definitions.machine import with_room
 from definitions.primitives import PRIMITIVES
-from definitions.values import NONE, Con, Function, apply, byte_list, force, listed, plain, settle, some
+from definitions.values import NONE, Con, Function, apply, force, listed, plain, settle, some
 
 
 def library() -> str | None:
