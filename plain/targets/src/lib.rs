@@ -26,20 +26,19 @@ unsafe fn input<'a>(bytes: *const u8, length: usize) -> &'a [u8] {
 /// `bytes` points to `length` bytes, or `length` is 0.
 #[no_mangle]
 pub unsafe extern "C" fn target_anchors(bytes: *const u8, length: usize) -> bool {
+    reads_anchors(unsafe { input(bytes, length) }).is_some()
+}
+
+/// The same, or `None` where the bytes are refused.
+fn reads_anchors(bytes: &[u8]) -> Option<()> {
     let magic = [0xf9, 0xbe, 0xb4, 0xd9];
-    let bytes = unsafe { input(bytes, length) };
-    let Ok(found) = anchors::read_file(Global, bytes, magic) else {
-        return false;
-    };
-    let Ok(written) = anchors::write_file(Global, found.items(), magic) else {
-        return true;
-    };
+    let found = anchors::read_file(Global, bytes, magic).ok()?;
+    let written = anchors::write_file(Global, found.items(), magic).ok().expect("there is memory");
     let again = anchors::read_file(Global, written.items(), magic);
-    let again = again.ok().expect("what was written is read");
-    if let Ok(second) = anchors::write_file(Global, again.items(), magic) {
-        assert!(second.items() == written.items());
-    }
-    true
+    let again = again.ok().expect("what is written is read");
+    let second = anchors::write_file(Global, again.items(), magic).ok().expect("there is memory");
+    assert!(second.items() == written.items());
+    Some(())
 }
 
 /// Reads a listing of both tables, as `getrawaddrman` prints it. Returns whether it is read.
