@@ -74,6 +74,7 @@ plain:
 
 check:
 	tools/check_plain
+	tools/definitions check bin/addrman
 
 proved:
 	mkdir -p bin

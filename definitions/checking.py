@@ -4,6 +4,7 @@ from __future__ import annotations
 import collections
 import concurrent.futures
 import os
+import resource
 import time
 
 from . import beside, examples, vectors
@@ -58,7 +59,7 @@ def check(root: str, folder: str, program: list[str] | None, lines: int, seed: i
             counts[what] += some
             wrong += bad
             undecided.update(open_)
-    print('vectors: ' + ', '.join(f'{kind} {n}' for kind, n in counts['vectors'].items()))
+    print('vectors: ' + ', '.join(f'{kind} {n}' for kind, n in counts['vectors'].items()), flush=True)
     print('worked examples: ' + ', '.join(f'{kind} {n}' for kind, n in counts['examples'].items()))
     for name, why in sorted(undecided.items()):
         print(f'not decided: {name}: {why}')
@@ -73,5 +74,7 @@ def check(root: str, folder: str, program: list[str] | None, lines: int, seed: i
             print('too few replies: ' + each)
     for each in wrong:
         print('wrong: ' + each)
-    print(f'{len(wrong)} wrong; {time.time() - start:.0f} s')
+    used = resource.getrusage(resource.RUSAGE_CHILDREN)
+    print(f'{len(wrong)} wrong; {time.time() - start:.0f} s, {used.ru_utime + used.ru_stime:.0f} s of '
+          'processors')
     return 1 if wrong or few else 0

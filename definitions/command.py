@@ -141,7 +141,7 @@ def plant(arguments: argparse.Namespace) -> int:
         return 0
     with_room(draw)
     setting = plants.Setting(arguments.crates, os.path.join(HERE, 'vectors'), program, logs)
-    return 1 if plants.check(setting, arguments.processes) else 0
+    return 1 if plants.check(setting, arguments.processes, arguments.only) else 0
 
 
 def edit(arguments: argparse.Namespace) -> int:
@@ -190,6 +190,7 @@ def main(words: list[str]) -> int:
     one.add_argument('program')
     one.add_argument('--seed', type=int, default=3)
     one.add_argument('--logs', type=int, default=8)
+    one.add_argument('--only', default='', help='those of modules with this in their names')
     one.add_argument('--processes', type=int, default=0)
     one.set_defaults(run=plant)
     one = commands.add_parser('edits', help='programs with mistakes, and the run that shows each')

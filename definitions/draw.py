@@ -84,7 +84,8 @@ class Drawing:
             return self.text_of(self.random.choice(known))
         if self.random.random() < 0.95:
             return self.random.choice(self.pool)
-        return f'{self.random.randrange(1, 224)}.{self.random.randrange(256)}.1.1:8333'
+        port = self.random.choice([8333, 0, 32768, 65535])
+        return f'{self.random.randrange(1, 224)}.{self.random.randrange(256)}.1.1:{port}'
 
     def now_line(self) -> str:
         """A time at a limit after what a record says, or some time later."""

@@ -13,6 +13,7 @@ import subprocess
 from dataclasses import dataclass
 
 from . import runs
+from .machine import load, with_room
 
 HERE = os.path.dirname(os.path.dirname(os.path.abspath(__file__)))
 
@@ -107,6 +108,21 @@ def build(edit: Edit, room: str) -> str | None:
     return program
 
 
+def inputs_for(edit: Edit, root: str, most: int) -> list[runs.Input]:
+    """Inputs that may show a mistake of a crate: drawn ones, and rows."""
+    got: list[runs.Input] = []
+
+    def draw() -> int:
+        definitions = load(root)
+        if edit.crate == 'asmap_vm':
+            got.extend(runs.asmap_inputs(definitions, 1, most))
+        elif edit.crate in ('picking', 'tables', 'table_plan', 'session_saves', 'log_run'):
+            got.extend(runs.drawn_inputs(definitions, 1, most // 3))
+        return 0
+    with_room(draw)
+    return (got + list(runs.row_inputs(ROWS[edit.crate])))[:most]
+
+
 def check(root: str, room: str, names: list[str], processes: int, most: int) -> int:
     """Builds each program, unless it is there, and says which run shows its mistake; how many are
     not shown."""
@@ -124,7 +140,7 @@ def check(root: str, room: str, names: list[str], processes: int, most: int) -> 
             print(f'{edit.name}: does not build', flush=True)
             continue
         found = runs.Found()
-        inputs = list(runs.row_inputs(ROWS[edit.crate]))[:most]
+        inputs = inputs_for(edit, root, most)
         for i in range(0, len(inputs), 24):
             found.add(runs.many(root, [program], inputs[i:i + 24], processes))
             if found.wrong:

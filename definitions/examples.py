@@ -7,9 +7,14 @@ from dataclasses import dataclass, field
 
 from . import values
 from .evaluate import Definitions
+from .machine import TooLong, within
 from .solve import holds
 from .syntax import Apply, Bound, Name, Not, Operation, Tree, parse_expression
 from .values import Stuck, Undefined, undo
+
+
+# How long an example may take.
+SECONDS = 8
 
 
 @dataclass
@@ -49,14 +54,14 @@ def check_module(definitions: Definitions, crate: str, name: str, found: Example
             continue
         values.undo(0)
         try:
-            if holds([scope.thunk_of(tree, {})]):
+            if within(SECONDS, lambda tree=tree: holds([scope.thunk_of(tree, {})])):  # type: ignore
                 found.counts['true'] += 1
             else:
                 found.counts['wrong'] += 1
                 found.wrong.append(label)
-        except Stuck:
+        except (Stuck, TooLong) as fault:
             found.counts['not decided'] += 1
-            found.undecided[label] = 'all goals wait'
+            found.undecided[label] = 'all goals wait' if type(fault) is Stuck else 'takes too long'
         except (Undefined, AttributeError, TypeError, KeyError) as fault:
             found.counts['not decided'] += 1
             found.undecided[label] = f'{type(fault).__name__}: {fault}'

@@ -140,7 +140,7 @@ class Judge:
         if name == 'Anchors':               # anchors.dat is read in the place of peers.dat
             for files in (before, after):
                 files['peers.dat'] = files.pop('anchors.dat', None)
-        if '--raw' in run.words:            # a listing is read in the place of peers.dat
+        if any(word.startswith('--raw') for word in run.words):     # a listing is read in the place of peers.dat
             before['peers.dat'] = after['peers.dat'] = log
             log, left = b'', b''
         statuses = self.status(run.code, run.reason)

@@ -1,6 +1,7 @@
 """A replay by the definitions: each line of a log is solved for its reply and the next state."""
 from __future__ import annotations
 
+import ctypes
 import sys
 import threading
 from typing import Any, Callable
@@ -12,8 +13,7 @@ from .json_words import JSON
 from .primitives import PRIMITIVES
 from .readings import replaced
 from .solve import solve
-from .values import (NONE, Con, Done, Var, apply, byte_list, force, listed, octets, plain, settle,
-                     undo)
+from .values import NONE, Con, Var, apply, byte_list, octets, plain, settle, undo
 
 # Definitions that are asked again and again for the same values.
 MEMORY = frozenset({
@@ -45,6 +45,22 @@ def with_room(main: Callable[[], int]) -> int:
     thread.start()
     thread.join()
     return found[0] if found else 1
+
+
+class TooLong(Exception):
+    """Something took too long to be evaluated."""
+
+
+def within(seconds: float, work: Callable[[], Any]) -> Any:
+    """What a function gives, or TooLong after so many seconds."""
+    thread = ctypes.c_ulong(threading.get_ident())
+    timer = threading.Timer(seconds, lambda: ctypes.pythonapi.PyThreadState_SetAsyncExc(
+        thread, ctypes.py_object(TooLong)))
+    timer.start()
+    try:
+        return work()
+    finally:
+        timer.cancel()
 
 
 class Replay:

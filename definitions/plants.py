@@ -119,9 +119,10 @@ def drawn_logs(root: str, program: list[str], seed: int, count: int,
     return found
 
 
-KINDS = {'net_addr': ['addresses', 'peers'], 'net_group': ['addresses', 'places'], 'placing': ['places'],
-         'peer_rec': ['records'], 'addr_codecs': ['messages', 'peers'], 'wire_num': ['messages', 'peers'],
-         'peers_file': ['peers'], 'asmap_vm': ['asmaps']}
+# The vectors that a crate's definitions may show in, and of these every so many.
+KINDS = {'net_addr': ('addresses', 1), 'net_group': ('addresses', 1), 'placing': ('places', 1),
+         'peer_rec': ('records', 1), 'addr_codecs': ('messages', 1), 'wire_num': ('messages', 1),
+         'peers_file': ('peers', 16), 'asmap_vm': ('asmaps', 1)}
 
 
 def found_by(setting: Setting, plant: Plant | None) -> str | None:
@@ -129,11 +130,10 @@ def found_by(setting: Setting, plant: Plant | None) -> str | None:
     changes = [(plant.where, plant.old, plant.new)] if plant else []
     crate = plant.where.split('/')[0] if plant else ''
     definitions = load(setting.root, changes)
-    if plant is None or crate in KINDS:
-        for kind in KINDS.get(crate, vectors.KINDS[:4]):
-            _, wrong = vectors.check(definitions, setting.vectors, [kind], 0, 1)
-            if wrong:
-                return wrong[0]
+    for kind, of in [KINDS[crate]] if crate in KINDS else []:
+        _, wrong = vectors.check(definitions, setting.vectors, [kind], 0, of)
+        if wrong:
+            return 'the vector ' + wrong[0]
     checked = examples.check(definitions, {crate, 'table_machine'} if plant else {'table_machine'})
     if checked.wrong:
         return 'the example ' + checked.wrong[0]
@@ -141,6 +141,12 @@ def found_by(setting: Setting, plant: Plant | None) -> str | None:
         shown = first_other(definitions, log, output, code)
         if shown:
             return f'the {name}, {shown}'
+    if crate == 'asmap_vm':
+        judge = Judge(definitions)
+        for given in runs.asmap_inputs(load(setting.root), 1, 120):
+            verdict = runs.judged(judge, setting.program, given)
+            if verdict.verdict == 'wrong':
+                return f'the {given.label}, {" ".join(given.words)}: {verdict.why}'
     if plant and plant.rows:
         judge = Judge(definitions)
         for given in runs.row_inputs(list(plant.rows)):
@@ -185,10 +191,11 @@ def in_room(job: tuple[Setting, Plant | None]) -> tuple[str | None, float]:
     return got[0] if got else ('NOT TRIED: no answer', 0.0)
 
 
-def check(setting: Setting, processes: int = 0) -> int:
-    """Tries all wrong definitions, and the right ones; how many are not found."""
+def check(setting: Setting, processes: int = 0, only: str = '') -> int:
+    """Tries the wrong definitions whose module has this in its name, and the right ones; how many
+    are not found."""
     missed = 0
-    todo: list[Plant | None] = [None, *PLANTS]
+    todo: list[Plant | None] = [None, *(plant for plant in PLANTS if only in plant.where)]
     with concurrent.futures.ProcessPoolExecutor(processes or os.cpu_count()) as pool:
         for plant, (shown, seconds) in zip(todo, pool.map(in_room, [(setting, p) for p in todo])):
             if plant is None:
@@ -198,5 +205,5 @@ def check(setting: Setting, processes: int = 0) -> int:
                 missed += shown is None or shown.startswith('NOT TRIED')
                 print(f'{plant.where}: {plant.mistake}: `{plant.new}` -> '
                       f'{shown or "NOT FOUND"} ({seconds:.0f} s)', flush=True)
-    print(f'{len(PLANTS)} wrong definitions, {missed} not found')
+    print(f'{len(todo) - 1} wrong definitions, {missed} not found')
     return missed

@@ -133,10 +133,15 @@ def slice_get(xs: Any, i: Any) -> Any:
 
 
 def swap(xs: Any, i: Any, j: Any) -> Any:
-    """Two elements exchanged; the list as it is if one of them is not there."""
+    """Two elements exchanged; for one that is not there the first one is taken."""
     got, i, j = items(xs), N(i), N(j)
-    if i < len(got) and j < len(got):
-        got[i], got[j] = got[j], got[i]
+    if not got:
+        return NIL
+    one, other = (got[k] if k < len(got) else got[0] for k in (i, j))
+    if i < len(got):
+        got[i] = other
+    if j < len(got):
+        got[j] = one
     return listed(got)
 
 

@@ -169,7 +169,7 @@ def walk(v: Any) -> Any:
                     found = walk(work())
                 except Stuck as stuck:
                     if stuck.variable is not None:
-                        v.waits = stuck
+                        v.waits = Stuck(stuck.variable, stuck.patterns)
                         if tentative:
                             TRAIL.append((v, WAITS))
                     tentative = tentative or before

@@ -6,6 +6,7 @@ import json
 from typing import Any, Callable
 
 from .evaluate import Definitions
+from .machine import TooLong, within
 from .solve import solve
 from .values import (NONE, Con, Done, Stuck, Undefined, Var, apply, byte_list, force, items, listed, numbers,
                      octets, plain, some, undo)
@@ -147,7 +148,7 @@ class Vectors:
         goal = apply(self.definitions.value('prefix_table.Text.IsFault'), text, fault)
         if not first(goal):
             return False
-        word = octets(self.call('prefix_table.FaultTexts.NAME', fault)).decode()
+        word = octets(self.call('prefix_table.FaultTexts.table_fault_text', fault)).decode()
         return word == v['fault']
 
     def peers(self, v: dict[str, Any]) -> bool:
@@ -158,7 +159,7 @@ class Vectors:
             goal = apply(self.definitions.value('peers_file.Layout.HasFileFault'), chain,
                          byte_list(data), got)
             return first(goal) and octets(
-                self.call('peers_file.FaultTexts.NAME2', got)).decode() == v['fault']
+                self.call('peers_file.FaultTexts.file_fault_text', got)).decode() == v['fault']
         goal = apply(self.definitions.value('peers_file.Layout.IsFile'), chain, byte_list(data), got)
         if not first(goal):
             return False
@@ -198,8 +199,8 @@ def check(definitions: Definitions, folder: str, kinds: list[str] = KINDS, part:
                 continue
             undo(0)
             try:
-                why = '' if decide(v) else 'differs'
-            except (Stuck, Undefined, AttributeError, TypeError, KeyError) as fault:
+                why = '' if within(60, lambda v=v: decide(v)) else 'differs'  # type: ignore
+            except (Stuck, TooLong, Undefined, AttributeError, TypeError, KeyError) as fault:
                 why = f'not evaluated: {type(fault).__name__} {fault}'
             undo(0)
             if why:

@@ -4,6 +4,7 @@ use host_io::DirFolder;
 use plain_std::alloc::{Alloc, Global};
 use plain_std::fs::{File, Metadata, OpenOptions};
 use plain_std::io::{self, ErrorKind};
+use plain_std::paths;
 use plain_std::rt::Files;
 use std::path::{Path, PathBuf};
 
@@ -14,7 +15,7 @@ impl InFolder<'_> {
     /// The error of the system if the folder itself cannot be looked into: without it, no file in
     /// it is there either.
     pub(crate) fn look(&self) -> std::io::Result<()> {
-        std::fs::metadata(self.0).map(|_| ())
+        paths::metadata(self.0).map(|_| ())
     }
 
     /// The path of a name.
@@ -43,19 +44,19 @@ impl Files for InFolder<'_> {
     type Dir = io::Stdin;
 
     fn open_file(&self, how: &OpenOptions, name: &str) -> io::Result<File> {
-        Ok(how.of_std().open(self.at(name)?)?.into())
+        Ok(paths::open(how, &self.at(name)?)?.into())
     }
 
     fn metadata(&self, name: &str) -> io::Result<Metadata> {
-        Ok(std::fs::metadata(self.at(name)?)?.into())
+        Ok(paths::metadata(&self.at(name)?)?)
     }
 
     fn rename(&self, from: &str, to: &str) -> io::Result<()> {
-        Ok(std::fs::rename(self.at(from)?, self.at(to)?)?)
+        Ok(paths::rename(&self.at(from)?, &self.at(to)?)?)
     }
 
     fn remove_file(&self, name: &str) -> io::Result<()> {
-        Ok(std::fs::remove_file(self.at(name)?)?)
+        Ok(paths::remove_file(&self.at(name)?)?)
     }
 }
 

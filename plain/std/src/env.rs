@@ -26,7 +26,7 @@ pub fn args<R: Env>(rt: &R) -> io::Result<std::vec::IntoIter<String>> {
 ///
 /// Those of the system, if the folder cannot be entered.
 pub fn set_current_dir<R: Env>(_rt: &R, path: &str) -> io::Result<()> {
-    Ok(crate::paths::enter(path)?)
+    Ok(crate::paths::enter(path.as_ref())?)
 }
 
 /// The arguments as C's `main` got them.

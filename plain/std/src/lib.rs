@@ -29,7 +29,7 @@ pub mod os;
 pub mod path;
 #[cfg_attr(unix, path = "unix_paths.rs")]
 #[cfg_attr(not(unix), path = "std_paths.rs")]
-mod paths;
+pub mod paths;
 pub mod process;
 pub mod rt;
 pub mod string;

@@ -263,11 +263,11 @@ impl Files for HostRuntime {
     type Dir = io::Stdin;
 
     fn open_file(&self, how: &OpenOptions, path: &str) -> io::Result<fs::File> {
-        Ok(paths::open(how, path)?.into())
+        Ok(paths::open(how, path.as_ref())?.into())
     }
 
     fn metadata(&self, path: &str) -> io::Result<Metadata> {
-        Ok(paths::metadata(path)?)
+        Ok(paths::metadata(path.as_ref())?)
     }
 
     fn symlink_metadata(&self, path: &str) -> io::Result<Metadata> {
@@ -279,15 +279,15 @@ impl Files for HostRuntime {
     }
 
     fn rename(&self, from: &str, to: &str) -> io::Result<()> {
-        Ok(paths::rename(from, to)?)
+        Ok(paths::rename(from.as_ref(), to.as_ref())?)
     }
 
     fn remove_file(&self, path: &str) -> io::Result<()> {
-        Ok(paths::remove_file(path)?)
+        Ok(paths::remove_file(path.as_ref())?)
     }
 
     fn create_dir(&self, path: &str) -> io::Result<()> {
-        Ok(paths::create_dir(path)?)
+        Ok(paths::create_dir(path.as_ref())?)
     }
 
     fn remove_dir(&self, path: &str) -> io::Result<()> {

@@ -2,33 +2,34 @@
 
 use crate::fs::{Metadata, OpenOptions};
 use std::io::Result;
+use std::path::Path;
 
 /// Opens a file.
-pub(crate) fn open(how: &OpenOptions, path: &str) -> Result<std::fs::File> {
+pub fn open(how: &OpenOptions, path: &Path) -> Result<std::fs::File> {
     how.of_std().open(path)
 }
 
 /// Returns what is known of a file, of the one that a symbolic link leads to.
-pub(crate) fn metadata(path: &str) -> Result<Metadata> {
+pub fn metadata(path: &Path) -> Result<Metadata> {
     Ok(std::fs::metadata(path)?.into())
 }
 
 /// Renames a file.
-pub(crate) fn rename(from: &str, to: &str) -> Result<()> {
+pub fn rename(from: &Path, to: &Path) -> Result<()> {
     std::fs::rename(from, to)
 }
 
 /// Removes a file.
-pub(crate) fn remove_file(path: &str) -> Result<()> {
+pub fn remove_file(path: &Path) -> Result<()> {
     std::fs::remove_file(path)
 }
 
 /// Makes a folder.
-pub(crate) fn create_dir(path: &str) -> Result<()> {
+pub fn create_dir(path: &Path) -> Result<()> {
     std::fs::create_dir(path)
 }
 
 /// Changes the current folder of the process.
-pub(crate) fn enter(path: &str) -> Result<()> {
+pub fn enter(path: &Path) -> Result<()> {
     std::env::set_current_dir(path)
 }

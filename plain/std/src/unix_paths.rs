@@ -10,21 +10,24 @@ use libc::{open64 as open_path, stat64 as stat_path, stat64 as Stat};
 #[cfg(not(target_os = "linux"))]
 use libc::{open as open_path, stat as stat_path, stat as Stat};
 use std::io::{Error, ErrorKind, Result};
+use std::os::unix::ffi::OsStrExt;
 use std::os::unix::io::FromRawFd;
+use std::path::Path;
 
 /// The bytes of a path with the zero that ends it. No system takes more.
 const MAX_PATH: usize = 4096;
 
 /// Makes a call over a path as C reads it.
-fn with_path<T>(path: &str, call: impl FnOnce(*const c_char) -> T) -> Result<T> {
+fn with_path<T>(path: &Path, call: impl FnOnce(*const c_char) -> T) -> Result<T> {
+    let path = path.as_os_str().as_bytes();
     let mut bytes = [0u8; MAX_PATH];
     if path.len() >= MAX_PATH {
         return Err(Error::from_raw_os_error(libc::ENAMETOOLONG));
     }
-    if path.as_bytes().contains(&0) {
+    if path.contains(&0) {
         return Err(ErrorKind::InvalidInput.into());
     }
-    bytes[..path.len()].copy_from_slice(path.as_bytes());
+    bytes[..path.len()].copy_from_slice(path);
     Ok(call(bytes.as_ptr().cast()))
 }
 
@@ -43,7 +46,7 @@ fn answer(mut call: impl FnMut() -> c_int) -> Result<c_int> {
 }
 
 /// Opens a file.
-pub(crate) fn open(how: &OpenOptions, path: &str) -> Result<std::fs::File> {
+pub fn open(how: &OpenOptions, path: &Path) -> Result<std::fs::File> {
     let flags = how.unix_flags() | libc::O_CLOEXEC;
     let mode = how.unix_mode();
     // SAFETY: the path is a C string for the time of the call.
@@ -53,7 +56,7 @@ pub(crate) fn open(how: &OpenOptions, path: &str) -> Result<std::fs::File> {
 }
 
 /// Returns what is known of a file, of the one that a symbolic link leads to.
-pub(crate) fn metadata(path: &str) -> Result<Metadata> {
+pub fn metadata(path: &Path) -> Result<Metadata> {
     // SAFETY: all bytes zero are a value of this plain struct.
     let mut found: Stat = unsafe { std::mem::zeroed() };
     // SAFETY: the path is a C string, and the struct is there, for the time of the call.
@@ -63,7 +66,7 @@ pub(crate) fn metadata(path: &str) -> Result<Metadata> {
 }
 
 /// Renames a file.
-pub(crate) fn rename(from: &str, to: &str) -> Result<()> {
+pub fn rename(from: &Path, to: &Path) -> Result<()> {
     // SAFETY: both paths are C strings for the time of the call.
     with_path(from, |from| {
         with_path(to, |to| answer(|| unsafe { libc::rename(from, to) }))
@@ -72,21 +75,21 @@ pub(crate) fn rename(from: &str, to: &str) -> Result<()> {
 }
 
 /// Removes a file.
-pub(crate) fn remove_file(path: &str) -> Result<()> {
+pub fn remove_file(path: &Path) -> Result<()> {
     // SAFETY: the path is a C string for the time of the call.
     with_path(path, |path| answer(|| unsafe { libc::unlink(path) }))??;
     Ok(())
 }
 
 /// Makes a folder, whose permission bits are what the process's mask leaves of 777.
-pub(crate) fn create_dir(path: &str) -> Result<()> {
+pub fn create_dir(path: &Path) -> Result<()> {
     // SAFETY: the path is a C string for the time of the call.
     with_path(path, |path| answer(|| unsafe { libc::mkdir(path, 0o777) }))??;
     Ok(())
 }
 
 /// Changes the current folder of the process.
-pub(crate) fn enter(path: &str) -> Result<()> {
+pub fn enter(path: &Path) -> Result<()> {
     // SAFETY: the path is a C string for the time of the call.
     with_path(path, |path| answer(|| unsafe { libc::chdir(path) }))??;
     Ok(())
@@ -97,25 +100,26 @@ mod tests {
     use super::{enter, metadata, open, remove_file, MAX_PATH};
     use crate::fs::OpenOptions;
     use std::io::ErrorKind;
+    use std::path::Path;
 
     #[test]
     fn a_path_with_a_zero_byte_or_without_end_is_refused() {
         let how = OpenOptions::new();
-        assert_eq!(open(&how, "a\0b").unwrap_err().kind(), ErrorKind::InvalidInput);
-        assert_eq!(metadata("a\0b").unwrap_err().kind(), ErrorKind::InvalidInput);
+        assert_eq!(open(&how, Path::new("a\0b")).unwrap_err().kind(), ErrorKind::InvalidInput);
+        assert_eq!(metadata(Path::new("a\0b")).unwrap_err().kind(), ErrorKind::InvalidInput);
         let long = "x".repeat(MAX_PATH);
-        assert_eq!(remove_file(&long).unwrap_err().raw_os_error(), Some(libc::ENAMETOOLONG));
-        assert_eq!(enter("/nowhere/at/all").unwrap_err().kind(), ErrorKind::NotFound);
+        assert_eq!(remove_file(Path::new(&long)).unwrap_err().raw_os_error(), Some(libc::ENAMETOOLONG));
+        assert_eq!(enter(Path::new("/nowhere/at/all")).unwrap_err().kind(), ErrorKind::NotFound);
     }
 
     #[test]
     fn kinds_and_sizes_are_those_of_the_system() {
         let name = std::env::temp_dir().join(format!("plain_std_paths_{}", std::process::id()));
-        let path = name.to_str().unwrap();
+        let path = name.as_path();
         std::fs::write(&name, b"twelve bytes").unwrap();
         let found = metadata(path).unwrap();
         assert!(found.is_file() && !found.is_dir() && found.len() == 12);
-        assert!(metadata("/").unwrap().is_dir());
+        assert!(metadata(Path::new("/")).unwrap().is_dir());
         remove_file(path).unwrap();
         assert_eq!(metadata(path).unwrap_err().kind(), ErrorKind::NotFound);
     }
