@@ -6,7 +6,6 @@ What is gone has the shape that its rule says, and no word of a contract is left
 import re
 from collections import Counter
 
-from asserts import WRITTEN
 from tokens import GHOST, STRING, CHAR, TRIVIA, Refused, cut
 
 NAME = r'[A-Za-z_]\w*'
@@ -38,10 +37,6 @@ SHAPES = {
     'unsafe attribute': r'unsafe\(|\)',
     'unsafe extern': r'unsafe',
 }
-# What is written of a `requires`: names, numbers, operators that neither overflow in u128 nor change
-# anything, and calls that only look.
-LOOKS = {'len', 'capacity', 'is_some', 'is_none', 'saturating_sub', 'leading_zeros'}
-ASSERTED = {'(', ')', '.', '::', '<', '<=', '==', '!=', '+', '*', '&&', '||', '!', '>='}
 WORDS = {'ghost', 'requires', 'ensures', 'Ledger', 'Model', 'tactic', 'Drop'}
 
 
@@ -60,19 +55,6 @@ def runs_of(source):
     yield from ((rule, line, text) for rule, text in runs.items())
 
 
-def check_asserts(source):
-    """What is written of a `requires` is an assertion that has no effect."""
-    for token in source.tokens:
-        for text in [text for rule, text in token.before if rule == WRITTEN]:
-            words = texts_of(cut(source.path, text))
-            inside = words[3:-2]
-            if words[:3] != ['debug_assert', '!', '('] or words[-2:] != [')', ';'] or any(
-                    not (word in ASSERTED or word[0].isalnum() or word[0] == '_') or
-                    after == '(' and word[0].isalpha() and word not in LOOKS
-                    for word, after in zip(inside, inside[1:] + [''])):
-                raise Refused(source.path, token.line, 'no assertion that only looks: %s' % text.strip())
-
-
 def check_shapes(source):
     for rule, line, text in runs_of(source):
         shape = SHAPES.get(rule)
@@ -80,7 +62,6 @@ def check_shapes(source):
             raise Refused(source.path, line, 'a rule without a shape: %s' % rule)
         if not re.fullmatch('(%s)+' % shape, text):
             raise Refused(source.path, line, 'not what "%s" takes out: %s' % (rule, text[:80]))
-    check_asserts(source)
 
 
 def texts_of(tokens):

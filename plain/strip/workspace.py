@@ -7,7 +7,6 @@ import subprocess
 import tempfile
 from collections import Counter
 
-from asserts import Program, read_asserts, write_asserts
 from check import check_format, check_shapes, check_tokens
 from drops import drop_all
 from laws import drop_laws, drop_removed, drop_unread
@@ -104,22 +103,16 @@ def commit_of(root):
     return commit + (' and changes' if changed else '')
 
 
-def strip(sources, commit, deps):
-    """Takes the proofs out of all files, and writes what Rust says in another way.
-
-    `deps` has the crates that each crate uses.
-    """
+def strip(sources, commit):
+    """Takes the proofs out of all files, and writes what Rust says in another way."""
     for source in sources:
         drop_all(source)
     removed = drop_laws(sources)
     drop_removed(sources, removed)
     drop_ledgers(sources)
     drop_unread(sources)
-    program = Program(sources, deps)
-    asserts = [read_asserts(program, source) for source in sources]
-    for source, found in zip(sources, asserts):
+    for source in sources:
         rewrite_all(source, commit)
-        write_asserts(source, found)
         check_shapes(source)
 
 
@@ -259,7 +252,7 @@ def read_workspace(root):
     crates = read_crates(os.path.join(root, 'crates.txt'))
     sources = read_sources(root, crates)
     everything = list(sources)
-    strip(sources, commit_of(root), {name: deps for name, (_, deps) in crates.items()})
+    strip(sources, commit_of(root))
     workspace, registry = versions_of(plain)
     left = {source.crate for source in sources if source.rel in ('lib.rt', 'main.rt')}
     files = {}
