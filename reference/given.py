@@ -76,9 +76,12 @@ def in_order(command: str, words: list[str]) -> list[str]:
     rest = list(words)
     while rest:
         word = rest.pop(0)
-        name, equals, _ = word.partition("=")
+        name, equals, value = word.partition("=")
         if not is_option(word) or name not in ORDER:
             name = OTHERS
+        if name == "--mark" and equals:
+            found[name] += [name, value]
+            continue
         values = []
         while rest and len(values) < ORDER[name] and not equals and not is_option(rest[0]):
             values.append(rest.pop(0))

@@ -11,12 +11,10 @@
 
 mod ended;
 mod given;
-mod in_order;
 mod placed;
 mod second;
 
 use crate::given::{Given, folder_of};
-use crate::in_order::put_in_order;
 use crate::placed::Placed;
 pub use crate::second::Facts;
 use crate::second::second_lines;
@@ -77,7 +75,7 @@ pub fn lines_of(alloc: Global, status: &Status, facts: &Facts<'_>) -> String {
         return String::new(alloc);
     }
     let mut text = line_of(alloc, status);
-    let after = if facts.words.is_empty() {
+    let after = if facts.line.is_empty() {
         list_of_commands(alloc)
     } else {
         second_lines(alloc, status, facts)
@@ -132,11 +130,8 @@ pub fn run_program(rt: &HostRuntime) -> Ended {
             rest = after;
         }
     }
-    let Ok(ordered) = put_in_order(rt.alloc(), rest) else {
-        return Ended::before_the_run("addrman: the arguments cannot be read\n");
-    };
-    match Given::of(rt.alloc(), rt, ordered.as_slice()) {
-        Ok(given) => run_over(rt, hasher, &given, rt.reader(), io::writer(rt)),
+    match Given::of(rt.alloc(), rt, rest) {
+        Ok(given) => run_over(rt, hasher, rest, &given, rt.reader(), io::writer(rt)),
         Err(_) => Ended::before_the_run("addrman: the arguments cannot be read\n"),
     }
 }
@@ -148,7 +143,7 @@ fn listing_of<L: Source>(
     given: &Given<'_>,
     log: &mut L,
 ) -> Result<Option<Bytes>, Status> {
-    if !given.paths.has_listing || read_request(alloc, given.words.as_slice()).is_none() {
+    if !given.paths.has_listing || read_request(given.words.as_slice()).is_err() {
         return Ok(None);
     }
     match read_input(alloc, log, MAX_TEXT) {
@@ -162,10 +157,12 @@ fn listing_of<L: Source>(
 }
 
 /// Runs the program with these arguments over the current folder, a log and an output, and returns
-/// how it ended. The file of an option is missing for each command that looks for it.
+/// how it ended. The file of an option is missing for each command that looks for it. `line` is the
+/// arguments as they were given.
 fn run_over<I: Read + Drop, O: Write + Drop>(
     rt: &HostRuntime,
     hasher: RandomState,
+    line: &[String],
     given: &Given<'_>,
     input: I,
     output: O,
@@ -207,6 +204,7 @@ fn run_over<I: Read + Drop, O: Write + Drop>(
         None => status,
     };
     let facts = Facts {
+        line,
         words,
         hint: given.hint.as_str(),
         learned: &learned,

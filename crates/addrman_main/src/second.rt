@@ -13,7 +13,9 @@ use std::io::ErrorKind;
 /// What is known of a run besides its status.
 #[derive(Clone, Copy)]
 pub struct Facts<'a> {
-    /// The arguments, without the program's name.
+    /// The arguments as they were given, without the program's name and the folder.
+    pub line: &'a [String],
+    /// The arguments of `run`.
     pub words: &'a [String],
     /// What is said of arguments that the program refuses before the run.
     pub hint: &'a str,
@@ -102,7 +104,7 @@ fn hint_of(alloc: Global, status: &Status, facts: &Facts<'_>) -> Result<String, 
     let learned = facts.learned;
     match status {
         Status::Usage if !facts.hint.is_empty() => String::from_str(alloc, facts.hint),
-        Status::Usage => usage_hint(alloc, facts.words),
+        Status::Usage => usage_hint(alloc, facts.line, facts.words),
         Status::LogLine { line, .. } => log_hint(alloc, facts, *line),
         Status::PeersRefused(fault) => refused_hint(alloc, fault, learned.head()),
         Status::AsmapRefused(fault) => asmap_hint(alloc, fault, learned.head()),

@@ -110,10 +110,10 @@ pub fn run_learning<L: Source, F: Folder, K: Sink, H: BuildHasher + Drop>(
         IsComplete request (outside L.Source F.Folder K.Sink log.old folder.old out.old)
         (outside L.Source F.Folder K.Sink log.new folder.new out.new) result }
 {
-    let Some(request) = read_request(alloc, words) else {
-        return Status::Usage;
-    };
-    carry_out(alloc, hasher, request, log, folder, out, learned)
+    match read_request(words) {
+        Ok(request) => carry_out(alloc, hasher, request, log, folder, out, learned),
+        Err(_) => Status::Usage,
+    }
 }
 
 /// Carries out what the arguments ask for.

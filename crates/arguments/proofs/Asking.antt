@@ -1,52 +1,133 @@
 -- Arguments ask for one request at most.
-use Rattle.std.proofs.Common.{◌≡◌, ◌≢◌, ◌≤◌, ℕ, Bool, true, List, [], ◌∷◌, ◌++◌, codes, length, drop, get_or, decimal, find, Option, Some, None, refl, sym, ap, subst, inl, inr, ◌∙◌, arith}
-use Rattle.std.specs.Prelude.{◌↔◌, IfSome, IfNone, IsTrue, false, bytes_eq, unwrap_or}
-use Rattle.std.proofs.lemmas.Bool.{iff_false}
+use Rattle.std.proofs.Common.{◌≡◌, ◌≢◌, ◌≤◌, ◌<◌, ℕ, Bool, true, false, List, [], ◌∷◌, ◌++◌, codes, length, drop, get_or, decimal, Option, Some, None, refl, sym, ap, subst, ◌∙◌, arith}
+use Rattle.std.specs.Prelude.{⊤, IfOk, IfErr, Result, Ok, Err, unwrap_or}
+use Rattle.std.specs.Option.{option_map}
+use Rattle.std.proofs.lemmas.Fmt.{decimal_injective}
 use Rattle.std.proofs.lemmas.Option.{none-some}
+use Rattle.ban_list.proofs.Named.{one_subnet_by}
+use Rattle.ban_list.specs.BanFile.{max_time}
 use Rattle.ban_list.specs.Subnet.{IsProper}
 use Rattle.ban_list.specs.SubnetText.{IsSubnetTextBy}
 use Rattle.ban_list.specs.declared.ban.BanRule.{BanRule}
 use Rattle.ban_list.specs.declared.subnet.Subnet.{Subnet}
-use Rattle.gen_load.specs.declared.generated.TheConstants.{MAX_LINES}
-use Rattle.grammar.specs.Fields.{AllMean, AreAtFault, Kind, Number, OfPeer, TheNumber, ThePeer, Value, u64_field}
-use Rattle.grammar.specs.Table.{all_definite}
-use Rattle.grammar.specs.declared.fault.LineFault.{LineFault}
-use Rattle.grammar.specs.declared.fault.LineFault.TheVariants as fault
-use Rattle.grammar.proofs.TableLemmas.{no_fault_after, one_list}
+use Rattle.forms.specs.Forms.{Wrong}
+use Rattle.forms.specs.Pieces.{pieces, places_in}
+use Rattle.forms.specs.Seen.{the_fault}
+use Rattle.forms.specs.declared.fault.Fault.{Fault}
+use Rattle.forms.specs.declared.option_name.OptionName.{OptionName}
+use Rattle.forms.specs.declared.option_name.OptionName.TheVariants as option
+use Rattle.grammar.proofs.Values.{one_value}
+use Rattle.grammar.specs.Fields.{Nets, TheNets, Value}
 use Rattle.names.specs.Text.{IsTextOf}
 use Rattle.names.proofs.Readings.{one_text}
+use Rattle.net_addr.proofs.OneReading.{one_peer}
 use Rattle.net_addr.specs.Address.{Address as NetAddress}
 use Rattle.net_addr.specs.Text.{IsPeerText}
 use Rattle.net_addr.specs.declared.peer.Peer.{Peer}
+use Rattle.peer_open.specs.declared.rules.OpenRules.{OpenRules}
 use Rattle.peers_file.specs.declared.chain.Chain.{Chain}
-use Rattle.placing.specs.declared.sum.SumRule.{SumRule}
-use Rattle.placing.specs.declared.sum.SumRule.TheVariants.{Bytes}
-use Rattle.arguments.specs.Options.{HasRule, IsAfterColouring, IsAfterDash, IsAfterGrouping, IsAfterPeers, IsFileOptions, IsListingOptions, IsNet, IsOpeningOptions, IsTables}
-use Rattle.arguments.specs.Table.{AddressOrLines, AreProperSets, Asks, Coloured, Fields, ForBans, Form, Grouped, HasNoValues, IsAddressIn, IsProperRequest, Keyed, Listing, Network, OfCommand, OfSubnet, Opening, Outgoing, PeerOrLines, Period, Reads, Records, Tables, TheAddress, TheAnchors, TheBanFields, TheColours, TheCommand, TheFields, TheGroups, TheKey, TheKind, TheListing, TheOpener, TheOpening, ThePeriod, TheRecords, TheSubnet, TheTables, Values, command_word, form_of, name_of, plain_word, request_values}
+use Rattle.arguments.specs.Inside.{IsRead, SaysNothing}
+use Rattle.arguments.specs.Options.{ChooseFile, ChooseRecords, ChooseRules, ChooseTables, Said, SayColours, SaysChain, SaysKey, SaysNets, SaysServices, flag, grouping_word, said_in}
+use Rattle.arguments.specs.Seen.{IsFormFault}
+use Rattle.arguments.specs.Table.{AreProperSets, Asks, IsAddressIn, IsLoad, IsPeerAt, IsPeerIn, IsPeriod, IsProperRequest, IsSubnetIn, IsTime, Says, command_word, fault_after, name_of, plain_word}
 use Rattle.arguments.specs.declared.colours.Colours.{Colours}
 use Rattle.arguments.specs.declared.colours.Colours.TheVariants as colours
+use Rattle.arguments.specs.declared.fault.UsageFault.{UsageFault}
+use Rattle.arguments.specs.declared.fault.UsageFault.TheVariants.{Form}
 use Rattle.arguments.specs.declared.file_kind.FileKind.{FileKind}
 use Rattle.arguments.specs.declared.grouping.Grouping.{Grouping}
-use Rattle.arguments.specs.declared.marks.Marks.{Marks}
+use Rattle.arguments.specs.declared.grouping.Grouping.TheVariants as grouping
 use Rattle.arguments.specs.declared.name.CommandName.{CommandName}
 use Rattle.arguments.specs.declared.name.CommandName.TheVariants as name
-use Rattle.arguments.specs.declared.name.TheConstants.{NAMES}
 use Rattle.arguments.specs.declared.request.Request.{Request}
 use Rattle.arguments.specs.declared.request.Request.TheVariants.{Replay, Opener, Compile, Check, Decompile, Diff, Limit, Lookup, LookupLines, Address, AddressLines, Show, Anchors, Picture, Raw, Info, Groups, Risk, RiskLines, FromRaw, Ban, Unban, Banned, Bans, Gen, Trial, Help, Version}
 use Rattle.arguments.specs.declared.tables_from.TablesFrom.{TablesFrom}
 use Rattle.arguments.specs.declared.tables_from.TablesFrom.TheVariants as from
-use Rattle.risk_parts.specs.declared.addr_set.AddrSet.{AddrSet}
-use Rattle.arguments.proofs.BesideAnchors.{one_show}
-use Rattle.arguments.proofs.BanForms.{one_ban_fields, one_period, one_subnet_in}
-use Rattle.arguments.proofs.OpenerOptions.{one_opener}
-use Rattle.arguments.proofs.WithCore.{no_file_kind, no_listing_kind, no_opening_kind, no_peers, one_file_kind, one_opening_kind, one_peers}
-use Rattle.arguments.proofs.Colourings.{no_colours_kind}
-use Rattle.arguments.proofs.Groupings.{no_grouping_kind, no_sets_kind}
-use Rattle.arguments.proofs.Marking.{proper_sets}
-use Rattle.arguments.proofs.Names.{name_found, one_command}
-use Rattle.arguments.proofs.WithRaw.{one_colours_tables, one_net_tables, one_risk}
+use Rattle.arguments.proofs.Chains.{one_key, one_magic, one_name as one_chain_name}
+use Rattle.arguments.proofs.Marking.{one_marks, proper_sets}
+use Rattle.arguments.proofs.Names.{one_colouring, one_command, one_grouping, one_name}
+use Rattle.arguments.proofs.Nothing.{Apart, number}
 
--- THE VALUES
+-- WHAT OPTIONS SAY
+
+one_said_key : (said : Said) (k l : Option (List ℕ)) → SaysKey said k → SaysKey said l → k ≡ l
+one_said_key None None None h j = refl
+one_said_key None None (Some l) h j = absurd j
+one_said_key (Some (digits ∷ [])) (Some k) None h j = absurd j
+one_said_key (Some (digits ∷ [])) (Some k) (Some l) h j = ap Some (one_key digits k l h j)
+one_said_key said k l h j = absurd h
+
+one_said_chain : (net magic : Said) (a b : Chain) → SaysChain net magic a → SaysChain net magic b → a ≡ b
+one_said_chain None None a b h j = h ∙ sym j
+one_said_chain (Some (name ∷ [])) None a b h j = one_chain_name name a b h j
+one_said_chain None (Some (digits ∷ [])) a b h j = one_magic digits a b h j
+one_said_chain net magic a b h j = absurd h
+
+one_file : (said : OptionName → Said) (a b : FileKind) → ChooseFile said a → ChooseFile said b → a ≡ b
+one_file said a b h j =
+    let chains = one_said_chain (said option.Net) (said option.Magic) a.chain b.chain h.1 j.1 in
+    let rules = h.0 ∙ sym j.0 in
+    λ i. record { chain = chains i; rule = rules i }
+
+one_tables : (said : OptionName → Said) (a b : TablesFrom) → ChooseTables said a → ChooseTables said b → a ≡ b
+one_tables said (from.File a) (from.File b) h j = ap from.File (one_file said a b h.1 j.1)
+one_tables said (from.File a) (from.Listing c) h j = absurd (none-some (codes "-" ∷ []) (sym h.0 ∙ j.0))
+one_tables said (from.Listing c) (from.File b) h j = absurd (none-some (codes "-" ∷ []) (sym j.0 ∙ h.0))
+one_tables said (from.Listing c) (from.Listing d) h j = ap from.Listing (one_said_chain (said option.Net) (said option.Magic) c d h.1 j.1)
+
+abbrev holds : Bool → Type 0
+holds true = ⊤
+holds false = ⊥
+
+-- an option is there or not
+pub not_both : (f : Option Bool) → f ≡ Some false → f ≡ Some true → ⊥
+not_both f off on = subst holds (ap (λ o. unwrap_or o false) (sym on ∙ off)) tt
+
+one_records : (said : OptionName → Said) (a b : Option FileKind) → ChooseRecords said a → ChooseRecords said b → a ≡ b
+one_records said None None h j = refl
+one_records said None (Some b) h j = absurd (not_both (flag (said option.Peers)) h.0 j.0)
+one_records said (Some a) None h j = absurd (not_both (flag (said option.Peers)) j.0 h.0)
+one_records said (Some a) (Some b) h j = ap Some (one_file said a b h.1 j.1)
+
+nets_in : Value → List ℕ
+nets_in (TheNets nets) = nets
+nets_in other = []
+
+one_nets : (said : Said) (a b : List ℕ) → SaysNets said a → SaysNets said b → a ≡ b
+unfolding nets_in
+one_nets None a b h j = h ∙ sym j
+one_nets (Some (text ∷ [])) a b h j = ap nets_in (one_value Nets text (TheNets a) (TheNets b) tt h j)
+one_nets said a b h j = absurd h
+
+one_services : (said : Said) (m n : ℕ) → SaysServices said m → SaysServices said n → m ≡ n
+one_services None m n h j = h ∙ sym j
+one_services (Some (text ∷ [])) m n h j = decimal_injective m n h.1 j.1 (sym h.0 ∙ j.0)
+one_services said m n h j = absurd h
+
+one_rules : (said : OptionName → Said) (r s : OpenRules) → ChooseRules said r → ChooseRules said s → r ≡ s
+one_rules said r s h j =
+    let nets = one_nets (said option.Exempt) r.exempt s.exempt h.0 j.0 in
+    let services = one_services (said option.Services) r.services s.services h.1 j.1 in
+    let ports = h.2 ∙ sym j.2 in
+    λ i. record { exempt = nets i; services = services i; skips_bad_ports = ports i }
+
+one_colours : (by mark : Said) (a b : Colours) → SayColours by mark a → SayColours by mark b → a ≡ b
+one_colours None None colours.Plain colours.Plain h j = refl
+one_colours None None colours.Plain (colours.By y) h j = absurd j
+one_colours None None colours.Plain (colours.Marks n) h j = absurd j
+one_colours (Some (word ∷ [])) None (colours.By x) (colours.By y) h j = ap colours.By (one_colouring x y (sym h ∙ j))
+one_colours (Some (word ∷ [])) None (colours.By x) colours.Plain h j = absurd j
+one_colours (Some (word ∷ [])) None (colours.By x) (colours.Marks n) h j = absurd j
+one_colours None (Some texts) (colours.Marks m) (colours.Marks n) h j = ap colours.Marks (one_marks texts m n h j)
+one_colours None (Some texts) (colours.Marks m) colours.Plain h j = absurd j
+one_colours None (Some texts) (colours.Marks m) (colours.By y) h j = absurd j
+one_colours by mark a b h j = absurd h
+
+-- WHAT STANDS IN PLACES
+
+one_peer_in : (texts : List (List ℕ)) (p q : Peer) → IsPeerIn texts p → IsPeerIn texts q → p ≡ q
+one_peer_in texts p q (text, is, spells) (next, also, spells_too) =
+    one_peer next p q (subst (λ t. IsPeerText t p) (ap (λ ts. get_or ts 0 []) (sym is ∙ also)) spells) spells_too
 
 -- `-` is no peer
 no_dash : (text : List ℕ) (p : Peer) → text ≡ codes "-" → IsPeerText text p → ⊥
@@ -57,281 +138,333 @@ no_dash text p is spells = by spells.addr (sym is ∙ spells.spelled)
     by (b ∷ []) same = omega (arith, ap (λ t. get_or t 1 0) same)
     by (b ∷ c ∷ front) same = omega (arith, ap length same)
 
-dash_or_peer : (texts : List (List ℕ)) (p : Peer) → texts ≡ codes "-" ∷ [] → AllMean (OfPeer ∷ []) texts (ThePeer p ∷ []) → ⊥
-dash_or_peer texts p is all =
-    let means = subst (λ ts. AllMean (OfPeer ∷ []) ts (ThePeer p ∷ [])) is all in
-    no_dash (codes "-") means.0.0 refl means.0.2
-
-one_lookup : (texts : List (List ℕ)) (v w : Values) → Reads PeerOrLines texts v → Reads PeerOrLines texts w → v ≡ w
-one_lookup texts v w (inl h) (inl k) = h.0 ∙ sym k.0
-one_lookup texts v w (inl h) (inr k) = absurd (dash_or_peer texts k.0 h.1 k.2)
-one_lookup texts v w (inr h) (inl k) = absurd (dash_or_peer texts h.0 k.1 h.2)
-one_lookup texts v w (inr h) (inr k) = h.1 ∙ ap TheFields (one_list (OfPeer ∷ []) texts (ThePeer h.0 ∷ []) (ThePeer k.0 ∷ []) refl h.2 k.2) ∙ sym k.1
+dash_or_peer : (texts : List (List ℕ)) (p : Peer) → texts ≡ codes "-" ∷ [] → IsPeerIn texts p → ⊥
+dash_or_peer texts p dash (text, is, spells) = no_dash text p (ap (λ ts. get_or ts 0 []) (sym is ∙ dash)) spells
 
 one_address : (texts : List (List ℕ)) (a b : NetAddress) → IsAddressIn texts a → IsAddressIn texts b → a ≡ b
-one_address texts a b h k = one_text k.0 a b (subst (λ t. IsTextOf t a) (ap (λ ts. get_or ts 0 []) (sym h.1 ∙ k.1)) h.2) k.2
+one_address texts a b (text, is, means) (next, also, too) = one_text next a b (subst (λ t. IsTextOf t a) (ap (λ ts. get_or ts 0 []) (sym is ∙ also)) means) too
 
-one_addresses : (texts : List (List ℕ)) (v w : Values) → Reads AddressOrLines texts v → Reads AddressOrLines texts w → v ≡ w
-one_addresses texts v w (inl h) (inl k) = h.1 ∙ sym k.1
-one_addresses texts v w (inl h) (inr k) = absurd (k.0 h.0)
-one_addresses texts v w (inr h) (inl k) = absurd (h.0 k.0)
-one_addresses texts v w (inr (h, (a, is, in_texts))) (inr (k, (b, same, other))) = is ∙ ap TheAddress (one_address texts a b in_texts other) ∙ sym same
+one_subnet_in : (rule : BanRule) (texts : List (List ℕ)) (a b : Subnet) → IsSubnetIn rule texts a → IsSubnetIn rule texts b → a ≡ b
+one_subnet_in rule texts a b (text, is, means) (next, also, too) = one_subnet_by rule next a b (subst (λ t. IsSubnetTextBy rule t a) (ap (λ ts. get_or ts 0 []) (sym is ∙ also)) means) too
 
--- the fields of the form are definite, as a test
-abbrev definite_form : Form → Bool
-definite_form (Fields kinds) = all_definite kinds
-definite_form (ForBans kinds) = all_definite kinds
-definite_form other = true
+one_period : (rule : BanRule) (texts : List (List ℕ)) (a b : Subnet) (n m u t : ℕ) → IsPeriod rule texts a n u → IsPeriod rule texts b m t → (a ≡ b) × (n ≡ m) × (u ≡ t)
+one_period rule texts a b n m u t (text, is, means, less, most) (next, also, too, lesser, least) =
+    let e = sym is ∙ also in (
+      one_subnet_by rule next a b (subst (λ x. IsSubnetTextBy rule x a) (ap (λ ts. get_or ts 0 []) e) means) too,
+      decimal_injective n m (omega (arith, less, most)) (omega (arith, lesser, least)) (ap (λ ts. get_or ts 1 []) e),
+      decimal_injective u t (omega (arith, most)) (omega (arith, least)) (ap (λ ts. get_or ts 2 []) e),
+    )
 
-one_values : (form : Form) (texts : List (List ℕ)) (v w : Values) → definite_form form ≡ true → Reads form texts v → Reads form texts w → v ≡ w
-one_values (Fields kinds) texts v w is h k = h.1 ∙ ap TheFields (one_list kinds texts h.0 k.0 is h.2 k.2) ∙ sym k.1
-one_values Opening texts v w is h k =
-    let same = one_opening_kind texts h.0 k.0 h.1 k.1 h.3 k.3 in
-    h.2 ∙ (λ i. TheOpening (same.0 i) (same.1 i)) ∙ sym k.2
-one_values Outgoing texts v w is h k =
-    let same = one_opener texts h.0 k.0 h.1 k.1 h.2 k.2 h.4 k.4 in
-    h.3 ∙ (λ i. TheOpener (same.0 i) (same.1 i) (same.2 i)) ∙ sym k.3
-one_values Network texts v w is h k = h.1 ∙ ap TheKind (one_file_kind texts h.0 k.0 h.2 k.2) ∙ sym k.1
-one_values Keyed texts v w is h k =
-    let same = one_opening_kind texts (Some h.0) (Some k.0) h.1 k.1 h.3 k.3 in
-    h.2 ∙ (λ i. TheKey (unwrap_or (same.0 i) h.0) (same.1 i)) ∙ sym k.2
-one_values Tables texts v w is h k = h.1 ∙ ap TheTables (one_net_tables texts h.0 k.0 h.2 k.2) ∙ sym k.1
-one_values Coloured texts v w is h k =
-    let same = one_colours_tables texts h.0 k.0 h.1 k.1 h.3 k.3 in
-    h.2 ∙ (λ i. TheColours (same.0 i) (same.1 i)) ∙ sym k.2
-one_values Listing texts v w is h k = one_show texts v w h k
-one_values Records texts v w is h k = h.1 ∙ ap TheRecords (one_peers texts h.0 k.0 h.2 k.2) ∙ sym k.1
-one_values Grouped texts v w is h k = one_risk texts v w h k
-one_values OfSubnet texts v w is h k = one_subnet_in texts v w h k
-one_values Period texts v w is h k = one_period texts v w h k
-one_values (ForBans kinds) texts v w is h k = one_ban_fields kinds texts v w is h k
-one_values PeerOrLines texts v w is h k = one_lookup texts v w h k
-one_values AddressOrLines texts v w is h k = one_addresses texts v w h k
-one_values OfCommand texts v w is h k = h.1 ∙ ap TheCommand (one_command texts h.0 k.0 h.2 k.2) ∙ sym k.1
+one_peer_at : (texts : List (List ℕ)) (p q : Peer) (n m : ℕ) → IsPeerAt texts p n → IsPeerAt texts q m → (p ≡ q) × (n ≡ m)
+one_peer_at texts p q n m (text, is, spells, most) (next, also, too, least) =
+    let e = sym is ∙ also in (
+      one_peer next p q (subst (λ t. IsPeerText t p) (ap (λ ts. get_or ts 0 []) e) spells) too,
+      decimal_injective n m (omega (arith, most)) (omega (arith, least)) (ap (λ ts. get_or ts 1 []) e),
+    )
 
-definite_name : (n : CommandName) → definite_form (form_of n) ≡ true
-definite_name name.Replay = refl
-definite_name other = refl
+one_time : (texts : List (List ℕ)) (n m : ℕ) → IsTime texts n → IsTime texts m → n ≡ m
+one_time texts n m h j = decimal_injective n m (omega (arith, h.1)) (omega (arith, j.1)) (ap (λ ts. get_or ts 0 []) (sym h.0 ∙ j.0))
+
+one_load : (texts : List (List ℕ)) (s t n m : ℕ) → IsLoad texts s n → IsLoad texts t m → (s ≡ t) × (n ≡ m)
+one_load texts s t n m h j =
+    let e = sym h.0 ∙ j.0 in (
+      decimal_injective s t h.1 j.1 (ap (λ ts. get_or ts 0 []) e),
+      decimal_injective n m (omega (arith, h.3)) (omega (arith, j.3)) (ap (λ ts. get_or ts 1 []) e),
+    )
+
+-- `-` is no grouping
+dash_or_grouping : (texts : List (List ℕ)) (by : Grouping) → texts ≡ codes "-" ∷ [] → texts ≡ grouping_word by ∷ [] → ⊥
+dash_or_grouping texts by dash is = absurd (longer by (sym dash ∙ is))
+  where
+    longer : (by : Grouping) → codes "-" ∷ [] ≡ grouping_word by ∷ [] → ⊥
+    longer grouping.Source e = omega (arith, ap (λ ts. length (get_or ts 0 [])) e)
+    longer other e = omega (arith, ap (λ ts. length (get_or ts 0 [])) e)
 
 -- THE REQUEST
 
-request_by : CommandName → Values → Request
-request_by name.Replay (TheOpening key kind) = Replay key kind
-request_by name.Opener (TheOpener rules key kind) = Opener rules key kind
-request_by name.Check values = Check
-request_by name.Decompile values = Decompile
-request_by name.Diff (TheRecords peers) = Diff peers
-request_by name.Limit values = Limit
-request_by name.Lookup (TheFields (ThePeer peer ∷ [])) = Lookup peer
-request_by name.Lookup (TheFields []) = LookupLines
-request_by name.Address (TheAddress addr) = Address addr
-request_by name.Address (TheFields []) = AddressLines
-request_by name.Show (TheListing keyed kind) = Show keyed kind
-request_by name.Show (TheAnchors chain) = Anchors chain
-request_by name.Picture (TheColours colours from) = Picture colours from
-request_by name.Raw (TheKind kind) = Raw kind
-request_by name.Info (TheTables from) = Info from
-request_by name.Groups (TheTables from) = Groups from
-request_by name.Risk (TheGroups by from) = Risk by from
-request_by name.Risk (TheKind kind) = RiskLines kind
-request_by name.FromRaw (TheKey key kind) = FromRaw key kind
-request_by name.Ban (ThePeriod rule subnet now until) = Ban rule subnet now until
-request_by name.Unban (TheSubnet rule subnet) = Unban rule subnet
-request_by name.Banned (TheBanFields rule (ThePeer peer ∷ TheNumber now ∷ [])) = Banned rule peer now
-request_by name.Bans (TheBanFields rule (TheNumber now ∷ [])) = Bans rule now
-request_by name.Gen (TheFields (TheNumber start ∷ TheNumber lines ∷ [])) = Gen start lines
-request_by name.Trial (TheFields (TheNumber start ∷ TheNumber lines ∷ [])) = Trial start lines
-request_by name.Help (TheCommand command) = Help command
-request_by name.Version values = Version
-request_by other values = Compile
+module _ (said : OptionName → Said) (places : List (List ℕ)) where
+  -- requests of one command that are said are the same
+  abbrev Same : Request → Type 0
+  Same a = (b : Request) → name_of a ≡ name_of b → Says said places a → Says said places b → a ≡ b
 
-request_back : (r : Request) → request_by (name_of r) (request_values r) ≡ r
-unfolding request_by
-request_back Compile = refl
-request_back other = refl
+  same_replay : (key : Option (List ℕ)) (kind : FileKind) → Same (Replay key kind)
+  unfolding Apart number
+  same_replay key kind (Replay key2 kind2) names h j =
+      let key_is = one_said_key (said option.Key) key key2 h.0 j.0 in
+      let kind_is = one_file said kind kind2 h.1 j.1 in
+      λ i. Replay (key_is i) (kind_is i)
+  same_replay key kind other names h j = absurd (subst (Apart 0) (sym names) tt)
 
-one_request : (a b : Request) (texts : List (List ℕ)) → name_of a ≡ name_of b → Reads (form_of (name_of a)) texts (request_values a) → Reads (form_of (name_of b)) texts (request_values b) → a ≡ b
-one_request a b texts names h k =
-    let values = one_values (form_of (name_of a)) texts (request_values a) (request_values b) (definite_name (name_of a)) h (subst (λ n. Reads (form_of n) texts (request_values b)) (sym names) k) in
-    sym (request_back a) ∙ (λ i. request_by (names i) (values i)) ∙ request_back b
+  same_opener : (rules : OpenRules) (key : Option (List ℕ)) (kind : FileKind) → Same (Opener rules key kind)
+  unfolding Apart number
+  same_opener rules key kind (Opener rules2 key2 kind2) names h j =
+      let rules_is = one_rules said rules rules2 h.0 j.0 in
+      let key_is = one_said_key (said option.Key) key key2 h.1 j.1 in
+      let kind_is = one_file said kind kind2 h.2 j.2 in
+      λ i. Opener (rules_is i) (key_is i) (kind_is i)
+  same_opener rules key kind other names h j = absurd (subst (Apart 1) (sym names) tt)
+
+  same_diff : (peers : Option FileKind) → Same (Diff peers)
+  unfolding Apart number
+  same_diff peers (Diff peers2) names h j = ap Diff (one_records said peers peers2 h j)
+  same_diff peers other names h j = absurd (subst (Apart 12) (sym names) tt)
+
+  same_lookup : (peer : Peer) → Same (Lookup peer)
+  unfolding Apart number
+  same_lookup peer (Lookup peer2) names h j = ap Lookup (one_peer_in places peer peer2 h j)
+  same_lookup peer LookupLines names h j = absurd (dash_or_peer places peer j h)
+  same_lookup peer other names h j = absurd (subst (Apart 14) (sym names) tt)
+
+  same_lookup_lines : Same LookupLines
+  unfolding Apart number
+  same_lookup_lines LookupLines names h j = refl
+  same_lookup_lines (Lookup peer2) names h j = absurd (dash_or_peer places peer2 h j)
+  same_lookup_lines other names h j = absurd (subst (Apart 14) (sym names) tt)
+
+  same_address : (addr : NetAddress) → Same (Address addr)
+  unfolding Apart number
+  same_address addr (Address addr2) names h j = ap Address (one_address places addr addr2 h.1 j.1)
+  same_address addr AddressLines names h j = absurd (h.0 j)
+  same_address addr other names h j = absurd (subst (Apart 15) (sym names) tt)
+
+  same_address_lines : Same AddressLines
+  unfolding Apart number
+  same_address_lines AddressLines names h j = refl
+  same_address_lines (Address addr2) names h j = absurd (j.0 h)
+  same_address_lines other names h j = absurd (subst (Apart 15) (sym names) tt)
+
+  same_show : (keyed : Bool) (kind : FileKind) → Same (Show keyed kind)
+  unfolding Apart number
+  same_show keyed kind (Show keyed2 kind2) names h j =
+      let keyed_is = h.1 ∙ sym j.1 in
+      let kind_is = one_file said kind kind2 h.2 j.2 in
+      λ i. Show (keyed_is i) (kind_is i)
+  same_show keyed kind (Anchors chain2) names h j = absurd (not_both (flag (said option.Anchors)) h.0 j.0)
+  same_show keyed kind other names h j = absurd (subst (Apart 3) (sym names) tt)
+
+  same_anchors : (chain : Chain) → Same (Anchors chain)
+  unfolding Apart number
+  same_anchors chain (Anchors chain2) names h j = ap Anchors (one_said_chain (said option.Net) (said option.Magic) chain chain2 h.1 j.1)
+  same_anchors chain (Show keyed2 kind2) names h j = absurd (not_both (flag (said option.Anchors)) j.0 h.0)
+  same_anchors chain other names h j = absurd (subst (Apart 3) (sym names) tt)
+
+  same_picture : (colours : Colours) (tables : TablesFrom) → Same (Picture colours tables)
+  unfolding Apart number
+  same_picture colours tables (Picture colours2 tables2) names h j =
+      let colours_is = one_colours (said option.By) (said option.Mark) colours colours2 h.0 j.0 in
+      let tables_is = one_tables said tables tables2 h.1 j.1 in
+      λ i. Picture (colours_is i) (tables_is i)
+  same_picture colours tables other names h j = absurd (subst (Apart 4) (sym names) tt)
+
+  same_raw : (kind : FileKind) → Same (Raw kind)
+  unfolding Apart number
+  same_raw kind (Raw kind2) names h j = ap Raw (one_file said kind kind2 h j)
+  same_raw kind other names h j = absurd (subst (Apart 5) (sym names) tt)
+
+  same_info : (tables : TablesFrom) → Same (Info tables)
+  unfolding Apart number
+  same_info tables (Info tables2) names h j = ap Info (one_tables said tables tables2 h j)
+  same_info tables other names h j = absurd (subst (Apart 6) (sym names) tt)
+
+  same_groups : (tables : TablesFrom) → Same (Groups tables)
+  unfolding Apart number
+  same_groups tables (Groups tables2) names h j = ap Groups (one_tables said tables tables2 h j)
+  same_groups tables other names h j = absurd (subst (Apart 7) (sym names) tt)
+
+  same_risk : (by : Grouping) (tables : TablesFrom) → Same (Risk by tables)
+  unfolding Apart number
+  same_risk by tables (Risk by2 tables2) names h j =
+      let by_is = one_grouping by by2 (ap (λ ts. get_or ts 0 []) (sym h.0 ∙ j.0)) in
+      let tables_is = one_tables said tables tables2 h.1 j.1 in
+      λ i. Risk (by_is i) (tables_is i)
+  same_risk by tables (RiskLines kind2) names h j = absurd (dash_or_grouping places by j.0 h.0)
+  same_risk by tables other names h j = absurd (subst (Apart 8) (sym names) tt)
+
+  same_risk_lines : (kind : FileKind) → Same (RiskLines kind)
+  unfolding Apart number
+  same_risk_lines kind (RiskLines kind2) names h j = ap RiskLines (one_file said kind kind2 h.1.1 j.1.1)
+  same_risk_lines kind (Risk by2 tables2) names h j = absurd (dash_or_grouping places by2 h.0 j.0)
+  same_risk_lines kind other names h j = absurd (subst (Apart 8) (sym names) tt)
+
+  same_from_raw : (key : List ℕ) (kind : FileKind) → Same (FromRaw key kind)
+  unfolding Apart number
+  same_from_raw key kind (FromRaw key2 kind2) names h j =
+      let key_is = ap (λ o. unwrap_or o key) (one_said_key (said option.Key) (Some key) (Some key2) h.0 j.0) in
+      let kind_is = one_file said kind kind2 h.1 j.1 in
+      λ i. FromRaw (key_is i) (kind_is i)
+  same_from_raw key kind other names h j = absurd (subst (Apart 9) (sym names) tt)
+
+  same_ban : (rule : BanRule) (subnet : Subnet) (now : ℕ) (until : ℕ) → Same (Ban rule subnet now until)
+  unfolding Apart number
+  same_ban rule subnet now until (Ban rule2 subnet2 now2 until2) names h j =
+      let rules = h.0 ∙ sym j.0 in
+      let same = one_period rule2 places subnet subnet2 now now2 until until2 (subst (λ r. IsPeriod r places subnet now until) rules h.1) j.1 in
+      λ i. Ban (rules i) (same.0 i) (same.1 i) (same.2 i)
+  same_ban rule subnet now until other names h j = absurd (subst (Apart 16) (sym names) tt)
+
+  same_unban : (rule : BanRule) (subnet : Subnet) → Same (Unban rule subnet)
+  unfolding Apart number
+  same_unban rule subnet (Unban rule2 subnet2) names h j =
+      let rules = h.0 ∙ sym j.0 in
+      let same = one_subnet_in rule2 places subnet subnet2 (subst (λ r. IsSubnetIn r places subnet) rules h.1) j.1 in
+      λ i. Unban (rules i) (same i)
+  same_unban rule subnet other names h j = absurd (subst (Apart 17) (sym names) tt)
+
+  same_banned : (rule : BanRule) (peer : Peer) (now : ℕ) → Same (Banned rule peer now)
+  unfolding Apart number
+  same_banned rule peer now (Banned rule2 peer2 now2) names h j =
+      let rules = h.0 ∙ sym j.0 in
+      let same = one_peer_at places peer peer2 now now2 h.1 j.1 in
+      λ i. Banned (rules i) (same.0 i) (same.1 i)
+  same_banned rule peer now other names h j = absurd (subst (Apart 18) (sym names) tt)
+
+  same_bans : (rule : BanRule) (now : ℕ) → Same (Bans rule now)
+  unfolding Apart number
+  same_bans rule now (Bans rule2 now2) names h j =
+      let rules = h.0 ∙ sym j.0 in
+      let same = one_time places now now2 h.1 j.1 in
+      λ i. Bans (rules i) (same i)
+  same_bans rule now other names h j = absurd (subst (Apart 19) (sym names) tt)
+
+  same_gen : (start lines : ℕ) → Same (Gen start lines)
+  unfolding Apart number
+  same_gen start lines (Gen start2 lines2) names h j =
+      let same = one_load places start start2 lines lines2 h j in
+      λ i. Gen (same.0 i) (same.1 i)
+  same_gen start lines other names h j = absurd (subst (Apart 20) (sym names) tt)
+
+  same_trial : (start lines : ℕ) → Same (Trial start lines)
+  unfolding Apart number
+  same_trial start lines (Trial start2 lines2) names h j =
+      let same = one_load places start start2 lines lines2 h j in
+      λ i. Trial (same.0 i) (same.1 i)
+  same_trial start lines other names h j = absurd (subst (Apart 21) (sym names) tt)
+
+  same_help : (command : Option CommandName) → Same (Help command)
+  unfolding Apart number
+  same_help command (Help command2) names h j = ap Help (one_command places command command2 h j)
+  same_help command other names h j = absurd (subst (Apart 22) (sym names) tt)
+
+  same_compile : Same Compile
+  unfolding Apart number
+  same_compile Compile names h j = refl
+  same_compile other names h j = absurd (subst (Apart 10) (sym names) tt)
+
+  same_check : Same Check
+  unfolding Apart number
+  same_check Check names h j = refl
+  same_check other names h j = absurd (subst (Apart 13) (sym names) tt)
+
+  same_decompile : Same Decompile
+  unfolding Apart number
+  same_decompile Decompile names h j = refl
+  same_decompile other names h j = absurd (subst (Apart 11) (sym names) tt)
+
+  same_limit : Same Limit
+  unfolding Apart number
+  same_limit Limit names h j = refl
+  same_limit other names h j = absurd (subst (Apart 2) (sym names) tt)
+
+  same_version : Same Version
+  unfolding Apart number
+  same_version Version names h j = refl
+  same_version other names h j = absurd (subst (Apart 23) (sym names) tt)
+
+  pub one_request : (a : Request) → Same a
+  one_request (Replay key kind) = same_replay key kind
+  one_request (Opener rules key kind) = same_opener rules key kind
+  one_request (Diff peers) = same_diff peers
+  one_request (Lookup peer) = same_lookup peer
+  one_request LookupLines = same_lookup_lines
+  one_request (Address addr) = same_address addr
+  one_request AddressLines = same_address_lines
+  one_request (Show keyed kind) = same_show keyed kind
+  one_request (Anchors chain) = same_anchors chain
+  one_request (Picture colours tables) = same_picture colours tables
+  one_request (Raw kind) = same_raw kind
+  one_request (Info tables) = same_info tables
+  one_request (Groups tables) = same_groups tables
+  one_request (Risk by tables) = same_risk by tables
+  one_request (RiskLines kind) = same_risk_lines kind
+  one_request (FromRaw key kind) = same_from_raw key kind
+  one_request (Ban rule subnet now until) = same_ban rule subnet now until
+  one_request (Unban rule subnet) = same_unban rule subnet
+  one_request (Banned rule peer now) = same_banned rule peer now
+  one_request (Bans rule now) = same_bans rule now
+  one_request (Gen start lines) = same_gen start lines
+  one_request (Trial start lines) = same_trial start lines
+  one_request (Help command) = same_help command
+  one_request Compile = same_compile
+  one_request Check = same_check
+  one_request Decompile = same_decompile
+  one_request Limit = same_limit
+  one_request Version = same_version
 
 -- WHAT IS READ
 
-pub if_none : {A : Type 0} (r : Option A) (P : Type 0) → P → IfNone r P
-if_none None P holds = holds
-if_none (Some x) P holds = tt
-
--- the request that was read has this name, and the texts after it have its values
-abbrev pub IsAfter : CommandName → List (List ℕ) → Request → Type 0
-IsAfter n texts request = (name_of request ≡ n) × Reads (form_of n) texts (request_values request)
-
-pub found_asks : (words texts : List (List ℕ)) (word plain : List ℕ) (n : CommandName) (r : Option Request) → words ≡ word ∷ texts → plain ≡ plain_word word → plain ≡ command_word n → IfSome r (IsAfter n texts) → IfSome r (Asks words)
-found_asks words texts word plain n None is of_word named found = tt
-found_asks words texts word plain n (Some request) is of_word named found = (
+-- what was read after a name is asked for
+pub asks : (words texts : List (List ℕ)) (word : List ℕ) (n : CommandName) (request : Request) → words ≡ word ∷ texts → plain_word word ≡ command_word n → fault_after n texts ≡ None → IsRead n texts request → Asks words request
+asks words texts word n request is named none read = (
   word,
   texts,
   is,
-  sym of_word ∙ named ∙ ap command_word (sym found.0),
-  subst (λ m. Reads (form_of m) texts (request_values request)) (sym found.0) found.1,
+  named ∙ ap command_word (sym read.0),
+  (subst (λ m. fault_after m texts ≡ None) (sym read.0) none, read.1),
 )
 
-head_of : (words texts : List (List ℕ)) (word : List ℕ) (request : Request) → words ≡ word ∷ texts → (asks : Asks words request) → plain_word word ≡ command_word (name_of request)
-head_of words texts word request is asks = ap plain_word (ap (λ ws. get_or ws 0 []) (sym is ∙ asks.2)) ∙ asks.3
+-- what is asked for has the name that was read
+pub name_asked : (words texts : List (List ℕ)) (word : List ℕ) (n : CommandName) (request : Request) → words ≡ word ∷ texts → plain_word word ≡ command_word n → Asks words request → n ≡ name_of request
+name_asked words texts word n request is named (first, rest, also, of_request, says) =
+    one_name n (name_of request) (sym named ∙ ap plain_word (ap (λ ws. get_or ws 0 []) (sym is ∙ also)) ∙ of_request)
 
-only_after : (n : CommandName) (texts : List (List ℕ)) (r : Option Request) → IfSome r (IsAfter n texts) → IfNone r (HasNoValues (form_of n) texts) →
-    (request : Request) → n ≡ name_of request → Reads (form_of (name_of request)) texts (request_values request) → r ≡ Some request
-unfolding HasNoValues
-only_after n texts None found none request is reads = absurd (none (request_values request) (subst (λ m. Reads (form_of m) texts (request_values request)) (sym is) reads))
-only_after n texts (Some read) found none request is reads =
-    ap Some (one_request read request texts (found.0 ∙ is) (subst (λ m. Reads (form_of m) texts (request_values read)) (sym found.0) found.1) reads)
+-- and is said by the arguments after it
+pub said_asked : (words texts : List (List ℕ)) (word : List ℕ) (request : Request) → words ≡ word ∷ texts → Asks words request →
+    (fault_after (name_of request) texts ≡ None) × Says (said_in (pieces texts)) (places_in (pieces texts)) request
+said_asked words texts word request is (first, rest, also, of_request, says) =
+    subst (λ ts. (fault_after (name_of request) ts ≡ None) × Says (said_in (pieces ts)) (places_in (pieces ts)) request) (ap (drop 1) (sym also ∙ is)) says
 
-pub only_asked : (words texts : List (List ℕ)) (word plain : List ℕ) (found : Option CommandName) (n : CommandName) (r : Option Request) → words ≡ word ∷ texts → plain ≡ plain_word word →
-    found ≡ find (λ k. bytes_eq (command_word k) plain) NAMES → found ≡ Some n → IfSome r (IsAfter n texts) → IfNone r (HasNoValues (form_of n) texts) →
-    (request : Request) → Asks words request → r ≡ Some request
-only_asked words texts word plain found n r is of_word searched some reads none request asks =
-    let same : Some n ≡ Some (name_of request) = sym some ∙ searched ∙ name_found plain (name_of request) (of_word ∙ head_of words texts word request is asks) in
-    let names = ap (λ o. unwrap_or o n) same in
-    let rest = ap (drop 1) (sym asks.2 ∙ is) in
-    only_after n texts r reads none request names (subst (λ ts. Reads (form_of (name_of request)) ts (request_values request)) rest asks.4)
+pub only_read : (words texts : List (List ℕ)) (word : List ℕ) (n : CommandName) (read request : Request) → words ≡ word ∷ texts → plain_word word ≡ command_word n → IsRead n texts read → Asks words request → read ≡ request
+only_read words texts word n read request is named found asked =
+    one_request (said_in (pieces texts)) (places_in (pieces texts)) read request (found.0 ∙ name_asked words texts word n request is named asked) found.1 (said_asked words texts word request is asked).1
 
--- a word that is no name asks for nothing
-pub none_asked : (words texts : List (List ℕ)) (word plain : List ℕ) (found : Option CommandName) → words ≡ word ∷ texts → plain ≡ plain_word word →
-    found ≡ find (λ k. bytes_eq (command_word k) plain) NAMES → found ≡ None → (request : Request) → Asks words request → ⊥
-none_asked words texts word plain found is of_word searched none request asks =
-    none-some (name_of request) (sym none ∙ searched ∙ name_found plain (name_of request) (of_word ∙ head_of words texts word request is asks))
+pub none_read : (words texts : List (List ℕ)) (word : List ℕ) (n : CommandName) → words ≡ word ∷ texts → plain_word word ≡ command_word n → SaysNothing n texts → (request : Request) → Asks words request → ⊥
+unfolding SaysNothing
+none_read words texts word n is named nothing request asked =
+    nothing request (sym (name_asked words texts word n request is named asked)) (said_asked words texts word request is asked).1
+
+pub none_formed : (words texts : List (List ℕ)) (word : List ℕ) (n : CommandName) (wrong : Wrong) → words ≡ word ∷ texts → plain_word word ≡ command_word n → fault_after n texts ≡ Some wrong → (request : Request) → Asks words request → ⊥
+none_formed words texts word n wrong is named fault request asked =
+    none-some wrong (sym (subst (λ m. fault_after m texts ≡ None) (sym (name_asked words texts word n request is named asked)) (said_asked words texts word request is asked).0) ∙ fault)
+
+pub none_named : (words texts : List (List ℕ)) (word : List ℕ) → words ≡ word ∷ texts → ((n : CommandName) → plain_word word ≢ command_word n) → (request : Request) → Asks words request → ⊥
+none_named words texts word is nameless request (first, rest, also, of_request, says) =
+    nameless (name_of request) (ap plain_word (ap (λ ws. get_or ws 0 []) (sym is ∙ also)) ∙ of_request)
+
+-- THE FIRST FAULT
+
+-- the fault of a form is that of the command's own form
+pub first_fault : (words texts rest : List (List ℕ)) (word first : List ℕ) (n m : CommandName) (wrong : Wrong) → words ≡ word ∷ texts → words ≡ first ∷ rest → plain_word word ≡ command_word n → plain_word first ≡ command_word m → fault_after n texts ≡ Some wrong → (n ≡ m) × (fault_after m rest ≡ Some wrong)
+first_fault words texts rest word first n m wrong is also named of_name fault =
+    let names = one_name n m (sym named ∙ ap plain_word (ap (λ ws. get_or ws 0 []) (sym is ∙ also)) ∙ of_name) in
+    (names, subst (λ ts. fault_after m ts ≡ Some wrong) (ap (drop 1) (sym is ∙ also)) (subst (λ k. fault_after k texts ≡ Some wrong) names fault))
 
 -- WHAT A REQUEST PROMISES
 
-subnet_in : Values → Subnet → Subnet
-subnet_in (TheSubnet rule subnet) other = subnet
-subnet_in (ThePeriod rule subnet now until) other = subnet
-subnet_in values other = other
-
-numbers_in : List Value → ℕ
-numbers_in (first ∷ TheNumber n ∷ []) = n
-numbers_in other = 0
-
-fields_in : Values → List Value
-fields_in (TheFields values) = values
-fields_in other = []
-
-sets_in : Values → List (Option AddrSet)
-sets_in (TheColours (colours.Marks marks) tables) = marks.sets
-sets_in other = []
-
-few_lines : (texts : List (List ℕ)) (start lines : ℕ) → Reads (form_of name.Gen) texts (TheFields (TheNumber start ∷ TheNumber lines ∷ [])) → lines ≤ MAX_LINES
-unfolding numbers_in fields_in
-few_lines texts start lines reads = by texts reads.0 (ap fields_in reads.1) reads.2
-  where
-    by : (texts : List (List ℕ)) (values : List Value) → TheNumber start ∷ TheNumber lines ∷ [] ≡ values → AllMean (u64_field ∷ Number 1 MAX_LINES ∷ []) texts values → lines ≤ MAX_LINES
-    by (a ∷ b ∷ []) (v ∷ w ∷ []) is all = omega (arith, ap numbers_in is, ap numbers_in (λ i. v ∷ all.1.0.1 i ∷ []), all.1.0.3)
-    by [] values is all = absurd all
-    by (a ∷ []) [] is all = absurd all
-    by (a ∷ []) (v ∷ values) is all = absurd all.1
-    by (a ∷ b ∷ texts) [] is all = absurd all
-    by (a ∷ b ∷ texts) (v ∷ []) is all = absurd all.1
-    by (a ∷ b ∷ c ∷ texts) (v ∷ w ∷ values) is all = absurd all.1.1
-    by (a ∷ b ∷ []) (v ∷ w ∷ x ∷ values) is all = absurd all.1.1
-
 module _ (law : (rule : BanRule) (text : List ℕ) (s : Subnet) → IsSubnetTextBy rule text s → IsProper s) where
-  proper_period : (texts : List (List ℕ)) (rule : BanRule) (s : Subnet) (now until : ℕ) → Reads Period texts (ThePeriod rule s now until) → IsProper s
-  unfolding subnet_in
-  proper_period texts rule s now until (r, rest, found, n, u, is, has, (text, all, means, less, most)) = subst IsProper (sym (ap (λ v. subnet_in v s) is)) (law r text found means)
+  proper_marks : (by mark : Said) (colours_said : Colours) (tables : TablesFrom) → SayColours by mark colours_said → IsProperRequest (Picture colours_said tables)
+  proper_marks None (Some texts) (colours.Marks marks) tables h = proper_sets law texts marks.sets h.2
+  proper_marks None None colours.Plain tables h = tt
+  proper_marks (Some (word ∷ [])) None (colours.By by) tables h = tt
+  proper_marks by mark other tables h = absurd h
 
-  proper_subnet : (texts : List (List ℕ)) (rule : BanRule) (s : Subnet) → Reads OfSubnet texts (TheSubnet rule s) → IsProper s
-  unfolding subnet_in
-  proper_subnet texts rule s (r, rest, found, is, has, (text, alone, means)) = subst IsProper (sym (ap (λ v. subnet_in v s) is)) (law r text found means)
+  proper : (said : OptionName → Said) (places : List (List ℕ)) (request : Request) → Says said places request → IsProperRequest request
+  proper said places (Ban rule subnet now until) (is, (text, are, means, less, most)) = law rule text subnet means
+  proper said places (Unban rule subnet) (is, (text, are, means)) = law rule text subnet means
+  proper said places (Gen start lines) h = h.3
+  proper said places (Trial start lines) h = h.3
+  proper said places (Picture colours_said tables) h = proper_marks (said option.By) (said option.Mark) colours_said tables h.0
+  proper said places other h = tt
 
-  sets_chosen : (texts : List (List ℕ)) (x : Colours) (tables : TablesFrom) → IsTables (IsAfterColouring x) texts tables → AreProperSets (sets_in (TheColours x tables))
-  unfolding sets_in
-  sets_chosen texts colours.Plain tables chosen = tt
-  sets_chosen texts (colours.By by) tables chosen = tt
-  sets_chosen texts (colours.Marks marks) (from.File kind) (rest, has, (words, means, after)) = proper_sets law words marks.sets means.2
-  sets_chosen texts (colours.Marks marks) (from.Listing chain) (rest, raw, (words, means, after)) = proper_sets law words marks.sets means.2
-
-  proper_marks : (texts : List (List ℕ)) (marks : Marks) (tables : TablesFrom) → Reads Coloured texts (TheColours (colours.Marks marks) tables) → AreProperSets marks.sets
-  unfolding sets_in
-  proper_marks texts marks tables (x, other, is, chosen) = subst AreProperSets (sym (ap sets_in is)) (sets_chosen texts x other chosen)
-
-  proper : (request : Request) (texts : List (List ℕ)) → Reads (form_of (name_of request)) texts (request_values request) → IsProperRequest request
-  proper (Ban rule subnet now until) texts reads = proper_period texts rule subnet now until reads
-  proper (Unban rule subnet) texts reads = proper_subnet texts rule subnet reads
-  proper (Gen start lines) texts reads = few_lines texts start lines reads
-  proper (Trial start lines) texts reads = few_lines texts start lines reads
-  proper (Picture (colours.Marks marks) tables) texts reads = proper_marks texts marks tables reads
-  proper other texts reads = tt
-
-  pub proper_asked : (words : List (List ℕ)) (r : Option Request) → IfSome r (Asks words) → IfSome r IsProperRequest
-  proper_asked words None asks = tt
-  proper_asked words (Some request) asks = proper request asks.1 asks.4
-
--- FIELDS
-
--- texts that were not read, since memory cannot run out, are not of the kinds
-pub no_fields : (kinds : List Kind) (texts : List (List ℕ)) (f : LineFault) → (f ≡ fault.Memory → ⊥) → (f ≢ fault.Memory → AreAtFault kinds texts f) → HasNoValues (Fields kinds) texts
-unfolding HasNoValues
-no_fields kinds texts f never why v reads = no_fault_after (Some kinds) texts reads.0 f reads.2 (why never)
-
--- OTHER FORMS
-
-pub no_lookup : (texts : List (List ℕ)) (is_dash : Bool) → (IsTrue is_dash ↔ (texts ≡ codes "-" ∷ [])) → is_dash ≡ false → HasNoValues (Fields (OfPeer ∷ [])) texts → HasNoValues PeerOrLines texts
-unfolding HasNoValues
-no_lookup texts is_dash iff not_it none v (inl dash) = iff_false iff not_it dash.1
-no_lookup texts is_dash iff not_it none v (inr peer) = none v (ThePeer peer.0 ∷ [], peer.1, peer.2)
-
-pub found_address : (texts : List (List ℕ)) (word : List ℕ) (r : Option NetAddress) → texts ≡ word ∷ [] → IfSome r (IsTextOf word) → IfSome r (IsAddressIn texts)
-found_address texts word None is found = tt
-found_address texts word (Some a) is found = (word, is, found)
-
-pub only_address : (texts : List (List ℕ)) (word : List ℕ) (r : Option NetAddress) → texts ≡ word ∷ [] → ((a : NetAddress) → IsTextOf word a → r ≡ Some a) →
-    (a : NetAddress) → IsAddressIn texts a → r ≡ Some a
-only_address texts word r is only a (text, one, means) = only a (subst (λ t. IsTextOf t a) (ap (λ ts. get_or ts 0 []) (sym one ∙ is)) means)
-
-pub found_addresses : (texts : List (List ℕ)) (is_dash : Bool) (a : NetAddress) → (IsTrue is_dash ↔ (texts ≡ codes "-" ∷ [])) → is_dash ≡ false → IsAddressIn texts a →
-    Reads AddressOrLines texts (TheAddress a)
-found_addresses texts is_dash a iff not_it is = inr (iff_false iff not_it, (a, refl, is))
-
-pub no_addresses : (texts : List (List ℕ)) (is_dash : Bool) (r : Option NetAddress) → (IsTrue is_dash ↔ (texts ≡ codes "-" ∷ [])) → is_dash ≡ false →
-    ((a : NetAddress) → IsAddressIn texts a → r ≡ Some a) → r ≡ None → HasNoValues AddressOrLines texts
-unfolding HasNoValues
-no_addresses texts is_dash r iff not_it only none v (inl dash) = iff_false iff not_it dash.0
-no_addresses texts is_dash r iff not_it only none v (inr (other, (a, is, in_texts))) = none-some a (sym none ∙ only a in_texts)
-
--- what opens tables with a key
-pub no_key_at_all : (texts : List (List ℕ)) → HasNoValues Opening texts → HasNoValues Keyed texts
-unfolding HasNoValues
-no_key_at_all texts none v (key, kind, is, chosen) = none (TheOpening (Some key) kind) (Some key, kind, refl, chosen)
-
--- and what opens them without one
-pub no_key_there : (texts : List (List ℕ)) (none : Option (List ℕ)) (kind : FileKind) → none ≡ None → IsFileOptions (IsOpeningOptions none) texts kind → HasNoValues Keyed texts
-unfolding HasNoValues
-no_key_there texts none kind is chosen v (key, other, same, also) = none-some key (sym is ∙ (one_opening_kind texts none (Some key) kind other chosen also).0)
-
--- what `--core` leaves to be read
-module _ (texts rest : List (List ℕ)) (rule : SumRule) (has : HasRule rule rest texts) (none : rule ≡ Bytes → (tail : List (List ℕ)) → texts ≡ codes "--core" ∷ tail → ⊥) where
-  pub no_opening : (r : Option (Option (List ℕ) × Chain)) → r ≡ None → ((key : Option (List ℕ)) (chain : Chain) → IsOpeningOptions key rest chain → r ≡ Some (key, chain)) → HasNoValues Opening texts
-  unfolding HasNoValues
-  no_opening r is only v reads = no_opening_kind texts rest rule has none (λ key chain chosen. none-some (key, chain) (sym is ∙ only key chain chosen)) reads.0 reads.1 reads.3
-
-  pub no_net : (r : Option Chain) → r ≡ None → ((chain : Chain) → IsNet rest chain → r ≡ Some chain) → HasNoValues Network texts
-  unfolding HasNoValues
-  no_net r is only v reads = no_file_kind texts rest rule has none (λ chain chosen. none-some chain (sym is ∙ only chain chosen)) reads.0 reads.2
-
-  pub no_listing : (r : Option (Bool × Chain)) → r ≡ None → ((keyed : Bool) (chain : Chain) → IsListingOptions keyed rest chain → r ≡ Some (keyed, chain)) →
-      (keyed : Bool) (kind : FileKind) → IsFileOptions (IsListingOptions keyed) texts kind → ⊥
-  no_listing r is only keyed kind chosen = no_listing_kind texts rest rule has none (λ keyed chain chosen. none-some (keyed, chain) (sym is ∙ only keyed chain chosen)) keyed kind chosen
-
-  pub no_grouping : (r : Option (Grouping × Chain)) → r ≡ None → ((by : Grouping) (chain : Chain) → IsAfterGrouping by rest chain → r ≡ Some (by, chain)) →
-      (by : Grouping) (kind : FileKind) → IsFileOptions (IsAfterGrouping by) texts kind → ⊥
-  no_grouping r is only by kind chosen = no_grouping_kind texts rest rule has none (λ other chain asks. none-some (other, chain) (sym is ∙ only other chain asks)) by kind chosen
-
-  pub no_sets : (r : Option Chain) → r ≡ None → ((chain : Chain) → IsAfterDash rest chain → r ≡ Some chain) → (kind : FileKind) → IsFileOptions IsAfterDash texts kind → ⊥
-  no_sets r is only kind chosen = no_sets_kind texts rest rule has none (λ chain asks. none-some chain (sym is ∙ only chain asks)) kind chosen
-
-  pub no_colours : (r : Option (Colours × Chain)) → r ≡ None → ((x : Colours) (chain : Chain) → IsAfterColouring x rest chain → r ≡ Some (x, chain)) →
-      (x : Colours) (kind : FileKind) → IsFileOptions (IsAfterColouring x) texts kind → ⊥
-  no_colours r is only x kind chosen = no_colours_kind texts rest rule has none (λ other chain asks. none-some (other, chain) (sym is ∙ only other chain asks)) x kind chosen
-
-  pub no_records : (r : Option Chain) → (texts ≡ [] → ⊥) → r ≡ None → ((chain : Chain) → IsAfterPeers rest chain → r ≡ Some chain) → HasNoValues Records texts
-  unfolding HasNoValues
-  no_records r some is only v reads = no_peers texts rest rule some has none (λ chain chosen. none-some chain (sym is ∙ only chain chosen)) reads.0 reads.2
+  pub proper_asked : {E : Type 0} (words : List (List ℕ)) (r : Result Request E) → IfOk r (Asks words) → IfOk r IsProperRequest
+  proper_asked words (Ok request) (word, texts, is, named, says) = proper (said_in (pieces texts)) (places_in (pieces texts)) request says.1
+  proper_asked words (Err fault) h = tt

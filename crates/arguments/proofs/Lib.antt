@@ -1,12 +1,7 @@
-pub mod Choosing
-pub mod WithCore
-pub mod Marking
-pub mod Colourings
-pub mod Groupings
-pub mod WithRaw
-pub mod BesideAnchors
-pub mod BanForms
-pub mod OpenerOptions
-pub mod Asking
-pub mod Names
-mod OptionExamples
+mod AnyOrder
+mod Asking
+mod Chains
+mod Marking
+mod Names
+mod Nothing
+mod Places

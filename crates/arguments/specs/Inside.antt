@@ -1,13 +1,18 @@
 -- Words of private contracts.
-use Rattle.std.specs.Prelude.{◌≡◌, ◌⊎◌, ℕ, List, ◌∷◌, ◌++◌, codes}
-use Rattle.grammar.specs.Fields.{IsInForm, Kind}
+use Rattle.std.specs.Prelude.{◌≡◌, ℕ, List}
+use Rattle.forms.specs.Pieces.{pieces, places_in}
+use Rattle.arguments.specs.Options.{said_in}
+use Rattle.arguments.specs.Table.{Says, name_of}
+use Rattle.arguments.specs.declared.name.CommandName.{CommandName}
+use Rattle.arguments.specs.declared.request.Request.{Request}
 
--- the arguments begin with an option and its value, in two or in one, and go on with the rest
-abbrev pub Begins : List ℕ → List ℕ → List (List ℕ) → List (List ℕ) → Type 0
-Begins name value rest words =
-    (words ≡ name ∷ value ∷ rest) ⊎ (words ≡ (name ++ codes "=" ++ value) ∷ rest)
+-- the request is of this command, and the arguments after its name say it
+abbrev pub IsRead : CommandName → List (List ℕ) → Request → Type 0
+IsRead name texts request =
+    (name_of request ≡ name) × Says (said_in (pieces texts)) (places_in (pieces texts)) request
 
--- the arguments begin with an option whose value is not of this kind
-abbrev pub HasNoValue : List ℕ → Kind → List (List ℕ) → Type 0
-HasNoValue name kind words =
-    (text : List ℕ) × (rest : List (List ℕ)) × Begins name text rest words × (¬ IsInForm kind text)
+-- the arguments after the name of a command say no request of it
+unfoldable pub SaysNothing : CommandName → List (List ℕ) → Type 0
+SaysNothing name texts =
+    (request : Request) → name_of request ≡ name →
+    ¬ Says (said_in (pieces texts)) (places_in (pieces texts)) request

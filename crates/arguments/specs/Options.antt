@@ -1,19 +1,18 @@
--- The options that say how tables are opened, and what is listed.
-use Rattle.std.specs.Prelude.{◌≡◌, ◌≢◌, ◌⊎◌, ⊤, ℕ, ◌<◌, ◌^◌, List, [], ◌∷◌, ◌++◌, length, Bool, true, false, Option, Some, None, Ok, codes}
+-- What options say: a key, a chain, rules, colours, and where tables come from.
+use Rattle.std.specs.Prelude.{◌≡◌, ◌≢◌, ⊤, ℕ, ◌<◌, ◌^◌, List, [], ◌∷◌, length, Bool, true, false, Option, Some, None, Ok, codes, decimal, if◌then◌else◌}
 use Rattle.std.specs.Int.{w32, to_be_bytes}
 use Rattle.hex.specs.Hex.{decode_of}
+use Rattle.forms.specs.Pieces.{Piece, values_in}
+use Rattle.forms.specs.declared.option_name.OptionName.{OptionName}
+use Rattle.forms.specs.declared.option_name.OptionName.TheVariants as option
 use Rattle.peers_file.specs.declared.chain.Chain.{Chain}
+use Rattle.peers_file.specs.declared.chain.Chain.TheVariants.{Main, Test, Testnet4, Signet, Regtest, Other}
 use Rattle.ban_list.specs.declared.ban.BanRule.{BanRule}
 use Rattle.ban_list.specs.declared.ban.BanRule.TheVariants.{Labels, Names}
 use Rattle.placing.specs.declared.sum.SumRule.{SumRule}
 use Rattle.placing.specs.declared.sum.SumRule.TheVariants.{Bytes, Bits}
-use Rattle.peers_file.specs.declared.chain.Chain.TheVariants.{Main, Test, Testnet4, Signet, Regtest, Other}
-use Rattle.grammar.specs.Fields.{Kind, Means, Nets, TheNets, TheNumber, Value, u64_field}
-use Rattle.net_addr.specs.NetSet.{none}
+use Rattle.grammar.specs.Fields.{Means, Nets, TheNets}
 use Rattle.peer_open.specs.declared.rules.OpenRules.{OpenRules}
-use Rattle.arguments.specs.Inside.{Begins}
-use Rattle.arguments.specs.declared.chain_option.ChainOption.{ChainOption}
-use Rattle.arguments.specs.declared.chain_option.ChainOption.TheVariants.{Net, Magic}
 use Rattle.arguments.specs.declared.colouring.Colouring.{Colouring}
 use Rattle.arguments.specs.declared.colouring.Colouring.TheVariants as colouring
 use Rattle.arguments.specs.declared.colours.Colours.{Colours}
@@ -28,14 +27,43 @@ use Rattle.arguments.specs.declared.tables_from.TablesFrom.TheVariants as from
 use Rattle.risk_parts.specs.Sets.{IsSetText}
 use Rattle.risk_parts.specs.declared.addr_set.AddrSet.{AddrSet}
 
+-- the values of an option, if it is there
+abbrev pub Said : Type 0
+Said = Option (List (List ℕ))
+
+-- the values of each option in these pieces
+abbrev pub said_in : List Piece → OptionName → Said
+said_in pieces option = values_in option pieces
+
+-- an option without values is there
+abbrev pub is_said : Said → Bool
+is_said None = false
+is_said (Some values) = true
+
+-- an option that has no value here, though it may have one elsewhere, is there or not
+abbrev pub flag : Said → Option Bool
+flag None = Some false
+flag (Some []) = Some true
+flag (Some values) = None
+
+-- THE KEY
+
 -- a key of 32 bytes, as 64 hexadecimal digits in either case
 abbrev pub IsKey : List ℕ → List ℕ → Type 0
 IsKey digits key = (decode_of digits ≡ Ok key) × (length key ≡ 32)
 
--- an option with its value, as two arguments or as one with = between them
-abbrev pub IsOption : List ℕ → List ℕ → List (List ℕ) → Type 0
-IsOption name value words =
-    (words ≡ name ∷ value ∷ []) ⊎ (words ≡ (name ++ codes "=" ++ value) ∷ [])
+-- what `--key` says: a key, or none
+abbrev pub SaysKey : Said → Option (List ℕ) → Type 0
+SaysKey None None = ⊤
+SaysKey (Some (digits ∷ [])) (Some key) = IsKey digits key
+SaysKey said other = ⊥
+
+-- what `--no-key` says: the key is not listed
+abbrev pub is_keyed : Said → Bool
+is_keyed None = true
+is_keyed (Some values) = false
+
+-- THE FILE
 
 -- the name of a chain
 abbrev pub IsName : List ℕ → Chain → Type 0
@@ -51,72 +79,78 @@ abbrev pub IsMagic : List ℕ → Chain → Type 0
 IsMagic digits (Other magic) = (decode_of digits ≡ Ok (to_be_bytes w32 magic)) × (magic < 2 ^ 32)
 IsMagic digits other = ⊥
 
--- the options that choose a chain: one by its name, the other by its first bytes
-abbrev pub chain_option : ChainOption → List ℕ
-chain_option Net = codes "--net"
-chain_option Magic = codes "--magic"
+-- what `--net` and `--magic` say: a chain, main without them
+abbrev pub SaysChain : Said → Said → Chain → Type 0
+SaysChain None None chain = chain ≡ Main
+SaysChain (Some (name ∷ [])) None chain = IsName name chain
+SaysChain None (Some (digits ∷ [])) chain = IsMagic digits chain
+SaysChain net magic chain = ⊥
 
--- The value of such an option names a chain.
-abbrev pub IsChainValue : ChainOption → List ℕ → Chain → Type 0
-IsChainValue Net value chain = IsName value chain
-IsChainValue Magic value chain = IsMagic value chain
+-- the chain that the options of a command choose
+abbrev pub ChoosesChain : (OptionName → Said) → Chain → Type 0
+ChoosesChain said chain = SaysChain (said option.Net) (said option.Magic) chain
 
--- the arguments choose a chain: main if there are none
-abbrev pub IsNet : List (List ℕ) → Chain → Type 0
-IsNet options chain =
-    ((options ≡ []) × (chain ≡ Main))
-    ⊎ ((by : ChainOption) × (value : List ℕ) × IsChainValue by value chain
-    × IsOption (chain_option by) value options)
+-- what `--core` says of a checksum of an asmap: Bitcoin Core's
+abbrev pub sum_rule : Said → SumRule
+sum_rule None = Bytes
+sum_rule (Some values) = Bits
 
--- these arguments, and `--no-key` before or after them
-abbrev pub HasNoKey : List (List ℕ) → List (List ℕ) → Type 0
-HasNoKey rest options =
-    (options ≡ codes "--no-key" ∷ rest) ⊎ (options ≡ rest ++ codes "--no-key" ∷ [])
+-- which peers.dat the options choose
+abbrev pub ChooseFile : (OptionName → Said) → FileKind → Type 0
+ChooseFile said kind = (kind.rule ≡ sum_rule (said option.Core)) × ChoosesChain said kind.chain
 
--- the arguments choose a chain, and whether the key is listed
-abbrev pub IsListingOptions : Bool → List (List ℕ) → Chain → Type 0
-IsListingOptions true options chain = IsNet options chain
-IsListingOptions false options chain =
-    (rest : List (List ℕ)) × HasNoKey rest options × IsNet rest chain
+-- what `--core` says of a list of bans: it is read and written as Bitcoin Core does
+abbrev pub ban_rule : Said → BanRule
+ban_rule None = Labels
+ban_rule (Some values) = Names
 
--- the arguments choose a key, or none
-abbrev pub IsKeyOption : List (List ℕ) → Option (List ℕ) → Type 0
-IsKeyOption options None = options ≡ []
-IsKeyOption options (Some key) =
-    (digits : List ℕ) × IsKey digits key × IsOption (codes "--key") digits options
+-- what `--raw`, `--core` and those that choose a chain say: a file, or a listing
+abbrev pub ChooseTables : (OptionName → Said) → TablesFrom → Type 0
+ChooseTables said (from.File kind) = (said option.Raw ≡ None) × ChooseFile said kind
+ChooseTables said (from.Listing chain) =
+    (said option.Raw ≡ Some (codes "-" ∷ [])) × ChoosesChain said chain
 
--- the arguments choose a key, or none, and a chain, in either order
-abbrev pub IsOpeningOptions : Option (List ℕ) → List (List ℕ) → Chain → Type 0
-IsOpeningOptions key options chain =
-    (first : List (List ℕ)) × (second : List (List ℕ)) × (options ≡ first ++ second) ×
-    ((IsKeyOption first key × IsNet second chain) ⊎ (IsNet first chain × IsKeyOption second key))
+-- one of the options that choose a file is there
+abbrev pub chooses_file : (OptionName → Said) → Bool
+chooses_file said =
+    if is_said (said option.Net) then true
+    else if is_said (said option.Magic) then true
+    else is_said (said option.Core)
 
--- the arguments begin with a word, and the others choose a chain
-abbrev pub IsAfterWord : List ℕ → List (List ℕ) → Chain → Type 0
-IsAfterWord word options chain =
-    (rest : List (List ℕ)) × (options ≡ word ∷ rest) × IsNet rest chain
+-- `diff` has no options, or `--peers` and those that choose a file
+abbrev pub ChooseRecords : (OptionName → Said) → Option FileKind → Type 0
+ChooseRecords said None =
+    (flag (said option.Peers) ≡ Some false) × (chooses_file said ≡ false)
+ChooseRecords said (Some kind) = (flag (said option.Peers) ≡ Some true) × ChooseFile said kind
 
--- the arguments ask for the records of a file of this chain
-abbrev pub IsAfterPeers : List (List ℕ) → Chain → Type 0
-IsAfterPeers options chain = IsAfterWord (codes "--peers") options chain
+-- THE RULES OF OPENER
 
--- the arguments ask for the anchors in a file of this chain
-abbrev pub IsAfterAnchors : List (List ℕ) → Chain → Type 0
-IsAfterAnchors options chain = IsAfterWord (codes "--anchors") options chain
+-- what `--exempt` says: networks, none without it
+abbrev pub SaysNets : Said → List ℕ → Type 0
+SaysNets None nets = nets ≡ []
+SaysNets (Some (text ∷ [])) nets = Means Nets text (TheNets nets)
+SaysNets said nets = ⊥
+
+-- what `--services` says: a number, 0 without it
+abbrev pub SaysServices : Said → ℕ → Type 0
+SaysServices None services = services ≡ 0
+SaysServices (Some (text ∷ [])) services = (text ≡ decimal services) × (services < 2 ^ 64)
+SaysServices said services = ⊥
+
+-- the rules that the options choose
+abbrev pub ChooseRules : (OptionName → Said) → OpenRules → Type 0
+ChooseRules said rules =
+    SaysNets (said option.Exempt) rules.exempt
+    × SaysServices (said option.Services) rules.services
+    × (rules.skips_bad_ports ≡ is_said (said option.SkipBadPorts))
+
+-- PICTURES
 
 -- what makes records one group, as people write it
 abbrev pub grouping_word : Grouping → List ℕ
 grouping_word Source = codes "source"
 grouping_word Peer = codes "peer"
 grouping_word Network = codes "network"
-
--- the arguments ask for groups of the records of a file of this chain
-abbrev pub IsAfterGrouping : Grouping → List (List ℕ) → Chain → Type 0
-IsAfterGrouping by options chain = IsAfterWord (grouping_word by) options chain
-
--- the arguments ask for the sets that the log names, of the records of a file of this chain
-abbrev pub IsAfterDash : List (List ℕ) → Chain → Type 0
-IsAfterDash options chain = IsAfterWord (codes "-") options chain
 
 -- what the colours of a picture go by, as people write it
 abbrev pub colouring_word : Colouring → List ℕ
@@ -136,89 +170,9 @@ AreMarks texts other = ⊥
 abbrev pub IsMarks : List (List ℕ) → Marks → Type 0
 IsMarks texts marks = (texts ≢ []) × (length marks.sets ≡ MAX_MARKS) × AreMarks texts marks.sets
 
--- the arguments begin with an option that chooses this chain; the others are the rest
-abbrev pub HasChain : Chain → List (List ℕ) → List (List ℕ) → Type 0
-HasChain chain rest options =
-    (by : ChainOption) × (value : List ℕ) × IsChainValue by value chain
-    × Begins (chain_option by) value rest options
-
--- the arguments choose a chain, and the last ones are `--mark` and the texts of sets
-abbrev pub IsMarked : Marks → List (List ℕ) → Chain → Type 0
-IsMarked marks options chain =
-    (texts : List (List ℕ)) × IsMarks texts marks
-    × (((options ≡ codes "--mark" ∷ texts) × (chain ≡ Main))
-    ⊎ HasChain chain (codes "--mark" ∷ texts) options)
-
--- the arguments choose a chain, and what the colours of a picture show: if they begin with `--by`,
--- what the next word says; and if they end with `--mark` and texts, which of these sets have a peer
-abbrev pub IsAfterColouring : Colours → List (List ℕ) → Chain → Type 0
-IsAfterColouring colours.Plain options chain = IsNet options chain
-IsAfterColouring (colours.By by) options chain =
-    (rest : List (List ℕ)) × Begins (codes "--by") (colouring_word by) rest options
-    × IsNet rest chain
-IsAfterColouring (colours.Marks marks) options chain = IsMarked marks options chain
-
--- the arguments begin with `--core`, which chooses Bitcoin Core's checksum of an asmap, or do not;
--- the others are the rest
-abbrev pub HasRule : SumRule → List (List ℕ) → List (List ℕ) → Type 0
-HasRule Bytes rest options = options ≡ rest
-HasRule Bits rest options = options ≡ codes "--core" ∷ rest
-
--- the arguments choose a rule, and the others a chain among other things
-abbrev pub IsFileOptions : (List (List ℕ) → Chain → Type 0) → List (List ℕ) → FileKind → Type 0
-IsFileOptions IsChosen options kind =
-    (rest : List (List ℕ)) × HasRule kind.rule rest options × IsChosen rest kind.chain
-
--- the arguments begin with `--raw -`, which has a listing read in the place of a file; the others
--- are the rest
-abbrev pub IsRaw : List (List ℕ) → List (List ℕ) → Type 0
-IsRaw rest options = Begins (codes "--raw") (codes "-") rest options
-
--- the arguments say where the tables come from: a file, or a listing
-abbrev pub IsTables : (List (List ℕ) → Chain → Type 0) → List (List ℕ) → TablesFrom → Type 0
-IsTables IsChosen options (from.File kind) = IsFileOptions IsChosen options kind
-IsTables IsChosen options (from.Listing chain) =
-    (rest : List (List ℕ)) × IsRaw rest options × IsChosen rest chain
-
--- the arguments ask for the records of a file of this kind, or for none
-abbrev pub IsPeersOption : List (List ℕ) → Option FileKind → Type 0
-IsPeersOption options None = options ≡ []
-IsPeersOption options (Some kind) = IsFileOptions IsAfterPeers options kind
-
--- the arguments begin with `--core`, which has a list of bans read and written as Bitcoin Core
--- does, or do not; the others are the rest
-abbrev pub HasBanRule : BanRule → List (List ℕ) → List (List ℕ) → Type 0
-HasBanRule Labels rest options = options ≡ rest
-HasBanRule Names rest options = options ≡ codes "--core" ∷ rest
-
--- the arguments begin with an option whose value is of this kind; or they don't, and the value is
--- that without the option; the others are the rest
-abbrev pub HasOption : List ℕ → Kind → Value → Value → List (List ℕ) → List (List ℕ) → Type 0
-HasOption name kind without value rest options =
-    ((options ≡ rest) × (value ≡ without))
-    ⊎ ((text : List ℕ) × Means kind text value × Begins name text rest options)
-
--- the arguments begin with `--skip-bad-ports`, or do not; the others are the rest
-abbrev pub HasPortRule : Bool → List (List ℕ) → List (List ℕ) → Type 0
-HasPortRule true rest options = options ≡ codes "--skip-bad-ports" ∷ rest
-HasPortRule false rest options = options ≡ rest
-
--- the arguments choose whether ports count, and then how tables are opened
-abbrev pub IsPortOptions : Bool → Option (List ℕ) → List (List ℕ) → FileKind → Type 0
-IsPortOptions skips key options kind =
-    (rest : List (List ℕ)) × HasPortRule skips rest options
-    × IsFileOptions (IsOpeningOptions key) rest kind
-
--- the services that are needed before these
-abbrev pub IsServiceOptions : ℕ → Bool → Option (List ℕ) → List (List ℕ) → FileKind → Type 0
-IsServiceOptions services skips key options kind =
-    (rest : List (List ℕ))
-    × HasOption (codes "--services") u64_field (TheNumber 0) (TheNumber services) rest options
-    × IsPortOptions skips key rest kind
-
--- the networks that do not count for groups before these
-abbrev pub IsOpenerOptions : OpenRules → Option (List ℕ) → List (List ℕ) → FileKind → Type 0
-IsOpenerOptions rules key options kind =
-    (rest : List (List ℕ))
-    × HasOption (codes "--exempt") Nets (TheNets none) (TheNets rules.exempt) rest options
-    × IsServiceOptions rules.services rules.skips_bad_ports key rest kind
+-- what `--by` and `--mark` say
+abbrev pub SayColours : Said → Said → Colours → Type 0
+SayColours None None colours.Plain = ⊤
+SayColours (Some (word ∷ [])) None (colours.By by) = word ≡ colouring_word by
+SayColours None (Some texts) (colours.Marks marks) = IsMarks texts marks
+SayColours by mark other = ⊥

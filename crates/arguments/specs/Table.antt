@@ -1,27 +1,26 @@
 -- The table of the commands, and what arguments ask for.
-use Rattle.std.specs.Prelude.{◌≡◌, ◌≢◌, ◌⊎◌, ◌<◌, ◌≤◌, ℕ, Bool, List, [], ◌∷◌, Option, Some, None, codes, decimal, bytes_eq, if◌then◌else◌, ⊤}
+use Rattle.std.specs.Prelude.{◌≡◌, ◌≢◌, ◌<◌, ◌≤◌, ◌^◌, ℕ, true, false, List, [], ◌∷◌, Option, Some, None, codes, decimal, bytes_eq, if◌then◌else◌, ⊤}
 use Rattle.ban_list.specs.BanFile.{max_time}
 use Rattle.ban_list.specs.Subnet.{IsProper}
 use Rattle.ban_list.specs.SubnetText.{IsSubnetTextBy}
 use Rattle.ban_list.specs.declared.ban.BanRule.{BanRule}
 use Rattle.ban_list.specs.declared.subnet.Subnet.{Subnet}
+use Rattle.forms.specs.Forms.{Wrong, form_fault}
+use Rattle.forms.specs.Pieces.{pieces, places_in}
+use Rattle.forms.specs.declared.option_name.OptionName.{OptionName}
+use Rattle.forms.specs.declared.option_name.OptionName.TheVariants as option
 use Rattle.gen_load.specs.declared.generated.TheConstants.{MAX_LINES}
-use Rattle.grammar.specs.Fields.{AllMean, Kind, Number, OfPeer, Value, TheNumber, ThePeer, u64_field}
 use Rattle.names.specs.Text.{IsTextOf}
 use Rattle.net_addr.specs.Address.{Address as NetAddress}
+use Rattle.net_addr.specs.Text.{IsPeerText}
 use Rattle.net_addr.specs.declared.peer.Peer.{Peer}
-use Rattle.peers_file.specs.declared.chain.Chain.{Chain}
-use Rattle.arguments.specs.Options.{HasBanRule, IsAfterAnchors, IsAfterColouring, IsAfterDash, IsAfterGrouping, IsFileOptions, IsListingOptions, IsNet, IsOpenerOptions, IsOpeningOptions, IsPeersOption, IsTables}
-use Rattle.arguments.specs.declared.colours.Colours.{Colours}
+use Rattle.arguments.specs.Options.{ChooseFile, ChooseRecords, ChooseRules, ChooseTables, ChoosesChain, Said, SayColours, SaysKey, ban_rule, flag, grouping_word, is_keyed, said_in}
 use Rattle.arguments.specs.declared.colours.Colours.TheVariants as colours
-use Rattle.arguments.specs.declared.file_kind.FileKind.{FileKind}
-use Rattle.arguments.specs.declared.grouping.Grouping.{Grouping}
 use Rattle.arguments.specs.declared.name.CommandName.{CommandName}
 use Rattle.arguments.specs.declared.name.CommandName.TheVariants as name
 use Rattle.arguments.specs.declared.request.Request.{Request}
 use Rattle.arguments.specs.declared.request.Request.TheVariants.{Replay, Opener, Compile, Check, Decompile, Diff, Limit, Lookup, LookupLines, Address, AddressLines, Show, Anchors, Picture, Raw, Info, Groups, Risk, RiskLines, FromRaw, Ban, Unban, Banned, Bans, Gen, Trial, Help, Version}
-use Rattle.arguments.specs.declared.tables_from.TablesFrom.{TablesFrom}
-use Rattle.peer_open.specs.declared.rules.OpenRules.{OpenRules}
+use Rattle.arguments.specs.declared.tables_from.TablesFrom.TheVariants as from
 use Rattle.risk_parts.specs.Sets.{IsProperSet}
 use Rattle.risk_parts.specs.declared.addr_set.AddrSet.{AddrSet}
 
@@ -63,59 +62,65 @@ plain_word word =
     else if bytes_eq word (codes "--version") then codes "version"
     else word
 
--- THE ARGUMENTS AFTER A NAME
+-- THE FORMS
+
+-- the options of a command, each at most once, anywhere after its name
+abbrev pub options_of : CommandName → List OptionName
+options_of name.Replay =
+    option.Key ∷ option.Net ∷ option.Magic ∷ option.Core ∷ []
+options_of name.Opener =
+    option.Key ∷ option.Net ∷ option.Magic ∷ option.Core ∷ option.Exempt ∷ option.Services
+    ∷ option.SkipBadPorts ∷ []
+options_of name.Show =
+    option.Anchors ∷ option.Net ∷ option.Magic ∷ option.NoKey ∷ option.Core ∷ []
+options_of name.Picture =
+    option.By ∷ option.Net ∷ option.Magic ∷ option.Core ∷ option.Raw ∷ option.Mark ∷ []
+options_of name.Raw = option.Net ∷ option.Magic ∷ option.Core ∷ []
+options_of name.Info = option.Net ∷ option.Magic ∷ option.Core ∷ option.Raw ∷ []
+options_of name.Groups = option.Net ∷ option.Magic ∷ option.Core ∷ option.Raw ∷ []
+options_of name.Risk = option.Net ∷ option.Magic ∷ option.Core ∷ option.Raw ∷ []
+options_of name.FromRaw = option.Key ∷ option.Net ∷ option.Magic ∷ option.Core ∷ []
+options_of name.Diff = option.Peers ∷ option.Net ∷ option.Magic ∷ option.Core ∷ []
+options_of name.Ban = option.Core ∷ []
+options_of name.Unban = option.Core ∷ []
+options_of name.Banned = option.Core ∷ []
+options_of name.Bans = option.Core ∷ []
+options_of other = []
+
+-- how many arguments stand in places of their own after a command, at most
+abbrev pub most_places : CommandName → ℕ
+most_places name.Lookup = 1
+most_places name.Address = 1
+most_places name.Risk = 1
+most_places name.Ban = 3
+most_places name.Unban = 1
+most_places name.Banned = 2
+most_places name.Bans = 1
+most_places name.Gen = 2
+most_places name.Trial = 2
+most_places name.Help = 1
+most_places other = 0
+
+-- the same, at least
+abbrev pub least_places : CommandName → ℕ
+least_places name.Help = 0
+least_places other = most_places other
+
+-- the first fault of arguments after a name that are not of its form
+abbrev pub fault_after : CommandName → List (List ℕ) → Option Wrong
+fault_after name texts =
+    form_fault (options_of name) (least_places name) (most_places name) (pieces texts)
+
+-- THE ARGUMENTS IN PLACES OF THEIR OWN
 
 -- the texts are the name of a command, or there are none
 abbrev pub NameCommand : List (List ℕ) → Option CommandName → Type 0
 NameCommand texts None = texts ≡ []
 NameCommand texts (Some name) = texts ≡ command_word name ∷ []
 
--- What comes after the name of a command: fields of these kinds; the options `--key` and `--net`;
--- `--exempt`, `--services` and `--skip-bad-ports`, each or none, before these; these, but never
--- without `--key`; only `--net`; the same, or `--raw -` before it; these with `--by` before
--- `--net`, or with `--mark` and sets at the end; `--net` and `--no-key`, or `--anchors` and
--- `--net`; `--peers` and `--net`, or nothing; what makes records one group, and `--net`, or
--- `--raw -` before these, or `-` and `--net`; a subnet; a subnet and two times, the earlier one
--- first; fields of these kinds for a list of bans; the name of a command or nothing; `-` or a peer;
--- or `-`, or else what people write for an address. `--magic` with digits may be in the place of
--- `--net`. `--core` may be before all options of a file, but not beside `--raw -` or `--anchors`,
--- and before what is for a list of bans.
-pub data Form : Type 0 where
-  Fields : List Kind → Form
-  Opening : Form
-  Outgoing : Form
-  Keyed : Form
-  Network : Form
-  Tables : Form
-  Coloured : Form
-  Listing : Form
-  Records : Form
-  Grouped : Form
-  OfSubnet : Form
-  Period : Form
-  ForBans : List Kind → Form
-  OfCommand : Form
-  PeerOrLines : Form
-  AddressOrLines : Form
-
--- the values of the arguments after a name
-pub data Values : Type 0 where
-  TheFields : List Value → Values
-  TheOpening : Option (List ℕ) → FileKind → Values
-  TheOpener : OpenRules → Option (List ℕ) → FileKind → Values
-  TheKey : List ℕ → FileKind → Values
-  TheKind : FileKind → Values
-  TheTables : TablesFrom → Values
-  TheColours : Colours → TablesFrom → Values
-  TheListing : Bool → FileKind → Values
-  TheAnchors : Chain → Values
-  TheRecords : Option FileKind → Values
-  TheGroups : Grouping → TablesFrom → Values
-  TheSubnet : BanRule → Subnet → Values
-  ThePeriod : BanRule → Subnet → ℕ → ℕ → Values
-  TheBanFields : BanRule → List Value → Values
-  TheCommand : Option CommandName → Values
-  TheAddress : NetAddress → Values
+-- the only text is the peer
+abbrev pub IsPeerIn : List (List ℕ) → Peer → Type 0
+IsPeerIn texts peer = (text : List ℕ) × (texts ≡ text ∷ []) × IsPeerText text peer
 
 -- the only text is what people write for this address
 abbrev pub IsAddressIn : List (List ℕ) → NetAddress → Type 0
@@ -132,83 +137,22 @@ IsPeriod rule texts subnet now until =
     (text : List ℕ) × (texts ≡ text ∷ decimal now ∷ decimal until ∷ [])
     × IsSubnetTextBy rule text subnet × (now < until) × (until ≤ max_time)
 
--- the arguments after a name are of the form and have these values
-abbrev pub Reads : Form → List (List ℕ) → Values → Type 0
-Reads (Fields kinds) texts v =
-    (values : List Value) × (v ≡ TheFields values) × AllMean kinds texts values
-Reads Opening texts v =
-    (key : Option (List ℕ)) × (kind : FileKind) × (v ≡ TheOpening key kind)
-    × IsFileOptions (IsOpeningOptions key) texts kind
-Reads Outgoing texts v =
-    (rules : OpenRules) × (key : Option (List ℕ)) × (kind : FileKind)
-    × (v ≡ TheOpener rules key kind) × IsOpenerOptions rules key texts kind
-Reads Keyed texts v =
-    (key : List ℕ) × (kind : FileKind) × (v ≡ TheKey key kind)
-    × IsFileOptions (IsOpeningOptions (Some key)) texts kind
-Reads Network texts v = (kind : FileKind) × (v ≡ TheKind kind) × IsFileOptions IsNet texts kind
-Reads Tables texts v = (from : TablesFrom) × (v ≡ TheTables from) × IsTables IsNet texts from
-Reads Coloured texts v =
-    (colours : Colours) × (from : TablesFrom) × (v ≡ TheColours colours from)
-    × IsTables (IsAfterColouring colours) texts from
-Reads Listing texts v =
-    ((keyed : Bool) × (kind : FileKind) × (v ≡ TheListing keyed kind)
-    × IsFileOptions (IsListingOptions keyed) texts kind)
-    ⊎ ((chain : Chain) × (v ≡ TheAnchors chain) × IsAfterAnchors texts chain)
-Reads Records texts v =
-    (peers : Option FileKind) × (v ≡ TheRecords peers) × IsPeersOption texts peers
-Reads Grouped texts v =
-    ((by : Grouping) × (from : TablesFrom) × (v ≡ TheGroups by from)
-    × IsTables (IsAfterGrouping by) texts from)
-    ⊎ ((kind : FileKind) × (v ≡ TheKind kind) × IsFileOptions IsAfterDash texts kind)
-Reads OfSubnet texts v =
-    (rule : BanRule) × (rest : List (List ℕ)) × (subnet : Subnet) × (v ≡ TheSubnet rule subnet)
-    × HasBanRule rule rest texts × IsSubnetIn rule rest subnet
-Reads Period texts v =
-    (rule : BanRule) × (rest : List (List ℕ)) × (subnet : Subnet) × (now : ℕ) × (until : ℕ)
-    × (v ≡ ThePeriod rule subnet now until) × HasBanRule rule rest texts
-    × IsPeriod rule rest subnet now until
-Reads (ForBans kinds) texts v =
-    (rule : BanRule) × (rest : List (List ℕ)) × (values : List Value)
-    × (v ≡ TheBanFields rule values) × HasBanRule rule rest texts × AllMean kinds rest values
-Reads PeerOrLines texts v =
-    ((v ≡ TheFields []) × (texts ≡ codes "-" ∷ []))
-    ⊎ ((peer : Peer) × (v ≡ TheFields (ThePeer peer ∷ []))
-    × AllMean (OfPeer ∷ []) texts (ThePeer peer ∷ []))
-Reads AddressOrLines texts v =
-    ((texts ≡ codes "-" ∷ []) × (v ≡ TheFields []))
-    ⊎ ((texts ≢ codes "-" ∷ []) × ((addr : NetAddress) × (v ≡ TheAddress addr)
-    × IsAddressIn texts addr))
-Reads OfCommand texts v =
-    (command : Option CommandName) × (v ≡ TheCommand command) × NameCommand texts command
+-- the texts are a peer and a time
+abbrev pub IsPeerAt : List (List ℕ) → Peer → ℕ → Type 0
+IsPeerAt texts peer now =
+    (text : List ℕ) × (texts ≡ text ∷ decimal now ∷ []) × IsPeerText text peer × (now ≤ max_time)
 
--- the arguments after a name are not of the form
-unfoldable pub HasNoValues : Form → List (List ℕ) → Type 0
-HasNoValues form texts = (values : Values) → ¬ Reads form texts values
+-- the only text is a time
+abbrev pub IsTime : List (List ℕ) → ℕ → Type 0
+IsTime texts now = (texts ≡ decimal now ∷ []) × (now ≤ max_time)
 
--- THE TABLE
+-- the texts are the number of a generated log, and how many lines it has
+abbrev pub IsLoad : List (List ℕ) → ℕ → ℕ → Type 0
+IsLoad texts start lines =
+    (texts ≡ decimal start ∷ decimal lines ∷ []) × (start < 2 ^ 64) × (1 ≤ lines)
+    × (lines ≤ MAX_LINES)
 
--- The form of the arguments after the name of each command.
-abbrev pub form_of : CommandName → Form
-form_of name.Replay = Opening
-form_of name.Opener = Outgoing
-form_of name.Lookup = PeerOrLines
-form_of name.Address = AddressOrLines
-form_of name.Show = Listing
-form_of name.Picture = Coloured
-form_of name.Raw = Network
-form_of name.Info = Tables
-form_of name.Groups = Tables
-form_of name.Risk = Grouped
-form_of name.FromRaw = Keyed
-form_of name.Diff = Records
-form_of name.Ban = Period
-form_of name.Unban = OfSubnet
-form_of name.Banned = ForBans (OfPeer ∷ Number 0 max_time ∷ [])
-form_of name.Bans = ForBans (Number 0 max_time ∷ [])
-form_of name.Gen = Fields (u64_field ∷ Number 1 MAX_LINES ∷ [])
-form_of name.Trial = Fields (u64_field ∷ Number 1 MAX_LINES ∷ [])
-form_of name.Help = OfCommand
-form_of other = Fields []
+-- WHAT ARGUMENTS ASK FOR
 
 -- the name of a request's command
 abbrev pub name_of : Request → CommandName
@@ -241,37 +185,53 @@ name_of (Trial start lines) = name.Trial
 name_of (Help command) = name.Help
 name_of Version = name.Version
 
--- the values of its arguments
-abbrev pub request_values : Request → Values
-request_values (Replay key kind) = TheOpening key kind
-request_values (Opener rules key kind) = TheOpener rules key kind
-request_values (Lookup peer) = TheFields (ThePeer peer ∷ [])
-request_values (Address addr) = TheAddress addr
-request_values (Show keyed kind) = TheListing keyed kind
-request_values (Anchors chain) = TheAnchors chain
-request_values (Picture colours from) = TheColours colours from
-request_values (Raw kind) = TheKind kind
-request_values (Info from) = TheTables from
-request_values (Groups from) = TheTables from
-request_values (Risk by from) = TheGroups by from
-request_values (RiskLines kind) = TheKind kind
-request_values (FromRaw key kind) = TheKey key kind
-request_values (Diff peers) = TheRecords peers
-request_values (Ban rule subnet now until) = ThePeriod rule subnet now until
-request_values (Unban rule subnet) = TheSubnet rule subnet
-request_values (Banned rule peer now) = TheBanFields rule (ThePeer peer ∷ TheNumber now ∷ [])
-request_values (Bans rule now) = TheBanFields rule (TheNumber now ∷ [])
-request_values (Gen start lines) = TheFields (TheNumber start ∷ TheNumber lines ∷ [])
-request_values (Trial start lines) = TheFields (TheNumber start ∷ TheNumber lines ∷ [])
-request_values (Help command) = TheCommand command
-request_values other = TheFields []
+-- the values of options, and the arguments in places of their own, are those of the request
+abbrev pub Says : (OptionName → Said) → List (List ℕ) → Request → Type 0
+Says said places (Replay key kind) = SaysKey (said option.Key) key × ChooseFile said kind
+Says said places (Opener rules key kind) =
+    ChooseRules said rules × SaysKey (said option.Key) key × ChooseFile said kind
+Says said places (Diff peers) = ChooseRecords said peers
+Says said places (Lookup peer) = IsPeerIn places peer
+Says said places LookupLines = places ≡ codes "-" ∷ []
+Says said places (Address addr) = (places ≢ codes "-" ∷ []) × IsAddressIn places addr
+Says said places AddressLines = places ≡ codes "-" ∷ []
+Says said places (Show keyed kind) =
+    (flag (said option.Anchors) ≡ Some false) × (keyed ≡ is_keyed (said option.NoKey))
+    × ChooseFile said kind
+Says said places (Anchors chain) =
+    (flag (said option.Anchors) ≡ Some true) × ChoosesChain said chain
+Says said places (Picture colours from) =
+    SayColours (said option.By) (said option.Mark) colours × ChooseTables said from
+Says said places (Raw kind) = ChooseFile said kind
+Says said places (Info from) = ChooseTables said from
+Says said places (Groups from) = ChooseTables said from
+Says said places (Risk by from) = (places ≡ grouping_word by ∷ []) × ChooseTables said from
+Says said places (RiskLines kind) = (places ≡ codes "-" ∷ []) × ChooseTables said (from.File kind)
+Says said places (FromRaw key kind) = SaysKey (said option.Key) (Some key) × ChooseFile said kind
+Says said places (Ban rule subnet now until) =
+    (rule ≡ ban_rule (said option.Core)) × IsPeriod rule places subnet now until
+Says said places (Unban rule subnet) =
+    (rule ≡ ban_rule (said option.Core)) × IsSubnetIn rule places subnet
+Says said places (Banned rule peer now) =
+    (rule ≡ ban_rule (said option.Core)) × IsPeerAt places peer now
+Says said places (Bans rule now) = (rule ≡ ban_rule (said option.Core)) × IsTime places now
+Says said places (Gen start lines) = IsLoad places start lines
+Says said places (Trial start lines) = IsLoad places start lines
+Says said places (Help command) = NameCommand places command
+Says said places other = ⊤
+
+-- the arguments after the name of the request's command are of its form, and say the request
+abbrev pub AsksAfter : List (List ℕ) → Request → Type 0
+AsksAfter texts request =
+    (fault_after (name_of request) texts ≡ None)
+    × Says (said_in (pieces texts)) (places_in (pieces texts)) request
 
 -- the arguments ask for this
 abbrev pub Asks : List (List ℕ) → Request → Type 0
 Asks words request =
     (word : List ℕ) × (texts : List (List ℕ)) × (words ≡ word ∷ texts)
     × (plain_word word ≡ command_word (name_of request))
-    × Reads (form_of (name_of request)) texts (request_values request)
+    × AsksAfter texts request
 
 -- WHAT A REQUEST PROMISES
 

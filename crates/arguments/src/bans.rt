@@ -1,95 +1,28 @@
-//! The arguments of `ban` and `unban`: `--core`, a subnet and two times.
+//! The readers of the arguments after the commands that are about a list of bans.
 
-ghost use Rattle.std.specs.Prelude.{◌≡◌, ◌≢◌, ◌<◌, ◌≤◌, ℕ, List, [], ◌∷◌, decimal, length, map, string_bytes, None, Some, IfSome, IfNone};
+ghost use Rattle.std.specs.Prelude.{◌≡◌, ◌≤◌, ℕ, decimal, map, string_bytes, Some, IfOk, IfErr, IfSome};
 ghost use Rattle.ban_list.specs.BanFile.{max_time};
-ghost use Rattle.ban_list.specs.SubnetText.{IsSubnetTextBy};
-ghost use Rattle.ban_list.specs.declared.ban.BanRule.{BanRule};
-ghost use Rattle.ban_list.specs.declared.subnet.Subnet.{Subnet};
-ghost use Rattle.arguments.specs.Options.{HasBanRule};
-ghost use Rattle.arguments.specs.Table.{HasNoValues, OfSubnet, Period, Reads, name_of, request_values};
+ghost use Rattle.arguments.specs.Inside.{IsRead, SaysNothing};
+ghost use Rattle.arguments.specs.Options.{ban_rule, said_in};
 ghost use Rattle.arguments.specs.declared.name.CommandName.TheVariants as name;
+ghost use Rattle.forms.specs.Pieces.{pieces};
+ghost use Rattle.forms.specs.declared.option_name.OptionName.TheVariants as option;
 
 use crate::Request;
-use crate::options::{after_flag, only_word};
-use ban_list::{BanRule, Subnet, parse_subnet_by};
-use net_addr::parse_number;
+use crate::fault::ValueFault;
+use crate::options::has_option;
+use ban_list::{BanRule, parse_subnet_by};
+use forms::{OptionName, one_place, three_places, two_places};
+use net_addr::{parse_number, parse_peer};
 
-/// Cuts `--core` off the arguments that begin with it and have `count` others, and returns the rule
-/// that it chooses and the rest.
-pub(crate) fn cut_ban_rule(words: &[String], count: usize) -> (BanRule, &[String])
-    ensures found { HasBanRule result.0
-        (map string_bytes result.1.now) (map string_bytes words.now) }
-    ensures only { (rule : BanRule) (rest : List (List ℕ)) →
-        HasBanRule rule rest (map string_bytes words.now) → length rest ≡ count →
-        (rule ≡ result.0) × (rest ≡ map string_bytes result.1.now) }
+/// Reads by which rule a list of bans is read and written.
+fn read_rule(words: &[String]) -> BanRule
+    ensures { result ≡ ban_rule (said_in (pieces (map string_bytes words.now)) option.Core) }
 {
-    match after_flag(words, b"--core") {
-        Some(rest) => {
-            if rest.len() == count {
-                (BanRule::Names, rest)
-            } else {
-                (BanRule::Labels, words)
-            }
-        }
-        None => (BanRule::Labels, words),
-    }
-}
-
-/// Reads the arguments after `unban`: `--core`, if the list is Bitcoin Core's, and a subnet.
-pub(crate) fn read_subnet(words: &[String]) -> Option<Request>
-    ensures found { IfSome result (λ request. (name_of request ≡ name.Unban)
-        × Reads OfSubnet (map string_bytes words.now) (request_values request)) }
-    ensures none { IfNone result (HasNoValues OfSubnet (map string_bytes words.now)) }
-{
-    let (rule, rest) = cut_ban_rule(words, 1);
-    let Some(word) = only_word(rest) else {
-        return None;
-    };
-    match parse_subnet_by(rule, word) {
-        Some(subnet) => Some(Request::Unban { rule, subnet }),
-        None => None,
-    }
-}
-
-/// Reads the arguments after `ban`: `--core`, if the list is Bitcoin Core's, a subnet and two
-/// times, the earlier one first.
-pub(crate) fn read_period(words: &[String]) -> Option<Request>
-    ensures found { IfSome result (λ request. (name_of request ≡ name.Ban)
-        × Reads Period (map string_bytes words.now) (request_values request)) }
-    ensures none { IfNone result (HasNoValues Period (map string_bytes words.now)) }
-{
-    let (rule, rest) = cut_ban_rule(words, 3);
-    let Some((subnet, now, until)) = three_words(rest) else {
-        return None;
-    };
-    match period_of(rule, subnet, now, until) {
-        Some((subnet, now, until)) => Some(Request::Ban {
-            rule,
-            subnet,
-            now,
-            until,
-        }),
-        None => None,
-    }
-}
-
-/// Reads a subnet, by the rule of the list, and two times, the earlier one first.
-fn period_of(rule: BanRule, subnet: &[u8], now: &[u8], until: &[u8]) -> Option<(Subnet, u32, u32)>
-    ensures found { IfSome result (λ ban. IsSubnetTextBy rule subnet.now ban.0
-        × (now.now ≡ decimal ban.1) × (until.now ≡ decimal ban.2) × (ban.1 < ban.2)
-        × (ban.2 ≤ max_time)) }
-    ensures only { (s : Subnet) (n u : ℕ) → IsSubnetTextBy rule subnet.now s →
-        now.now ≡ decimal n → until.now ≡ decimal u → n < u → u ≤ max_time → result ≢ None }
-{
-    let Some(subnet) = parse_subnet_by(rule, subnet) else {
-        return None;
-    };
-    let now = read_time(now)?;
-    let until = read_time(until)?;
-    if now < until {
-        Some((subnet, now, until))
+    if has_option(OptionName::Core, words) {
+        BanRule::Names
     } else {
-        None
+        BanRule::Labels
     }
 }
 
@@ -101,15 +34,84 @@ fn read_time(text: &[u8]) -> Option<u32>
     Some(parse_number(text, u32::MAX.into())? as u32)
 }
 
-/// Returns the arguments if there are three.
-fn three_words(words: &[String]) -> Option<(&[u8], &[u8], &[u8])>
-    ensures some { IfSome result (λ parts.
-        map string_bytes words.now ≡ parts.0.now ∷ parts.1.now ∷ parts.2.now ∷ []) }
-    ensures none { IfNone result ((a b c : List ℕ) →
-        map string_bytes words.now ≡ a ∷ b ∷ c ∷ [] → ⊥) }
+/// Reads the arguments after `ban`: a subnet and two times, the earlier one first.
+#[tactic(auto, using(crate::proofs::Nothing::no_ban))]
+pub(crate) fn read_ban(words: &[String]) -> Result<Request, ValueFault>
+    ensures found { IfOk result (IsRead name.Ban (map string_bytes words.now)) }
+    ensures none { IfErr result (λ fault. SaysNothing name.Ban (map string_bytes words.now)) }
 {
-    match words {
-        [first, second, third] => Some((first.as_bytes(), second.as_bytes(), third.as_bytes())),
-        _ => None,
+    let rule = read_rule(words);
+    let Some((subnet, now, until)) = three_places(words) else {
+        return Err(ValueFault::Place(0));
+    };
+    let Some(subnet) = parse_subnet_by(rule, subnet) else {
+        return Err(ValueFault::Place(0));
+    };
+    let Some(now) = read_time(now) else {
+        return Err(ValueFault::Place(1));
+    };
+    let Some(until) = read_time(until) else {
+        return Err(ValueFault::Place(2));
+    };
+    if now < until {
+        Ok(Request::Ban {
+            rule,
+            subnet,
+            now,
+            until,
+        })
+    } else {
+        Err(ValueFault::Place(2))
+    }
+}
+
+/// Reads the arguments after `unban`: a subnet.
+#[tactic(auto, using(crate::proofs::Nothing::no_unban))]
+pub(crate) fn read_unban(words: &[String]) -> Result<Request, ValueFault>
+    ensures found { IfOk result (IsRead name.Unban (map string_bytes words.now)) }
+    ensures none { IfErr result (λ fault. SaysNothing name.Unban (map string_bytes words.now)) }
+{
+    let rule = read_rule(words);
+    let Some(text) = one_place(words) else {
+        return Err(ValueFault::Place(0));
+    };
+    match parse_subnet_by(rule, text) {
+        Some(subnet) => Ok(Request::Unban { rule, subnet }),
+        None => Err(ValueFault::Place(0)),
+    }
+}
+
+/// Reads the arguments after `banned`: a peer and a time.
+#[tactic(auto, using(crate::proofs::Nothing::no_banned))]
+pub(crate) fn read_banned(words: &[String]) -> Result<Request, ValueFault>
+    ensures found { IfOk result (IsRead name.Banned (map string_bytes words.now)) }
+    ensures none { IfErr result (λ fault. SaysNothing name.Banned (map string_bytes words.now)) }
+{
+    let rule = read_rule(words);
+    let Some((peer, now)) = two_places(words) else {
+        return Err(ValueFault::Place(0));
+    };
+    let Some(peer) = parse_peer(peer) else {
+        return Err(ValueFault::Place(0));
+    };
+    match read_time(now) {
+        Some(now) => Ok(Request::Banned { rule, peer, now }),
+        None => Err(ValueFault::Place(1)),
+    }
+}
+
+/// Reads the arguments after `bans`: a time.
+#[tactic(auto, using(crate::proofs::Nothing::no_bans))]
+pub(crate) fn read_bans(words: &[String]) -> Result<Request, ValueFault>
+    ensures found { IfOk result (IsRead name.Bans (map string_bytes words.now)) }
+    ensures none { IfErr result (λ fault. SaysNothing name.Bans (map string_bytes words.now)) }
+{
+    let rule = read_rule(words);
+    let Some(now) = one_place(words) else {
+        return Err(ValueFault::Place(0));
+    };
+    match read_time(now) {
+        Some(now) => Ok(Request::Bans { rule, now }),
+        None => Err(ValueFault::Place(0)),
     }
 }

@@ -1,8 +1,10 @@
-//! `Colouring`: the values of `picture --by`.
+//! The reader of what the colours of a picture go by.
 
+ghost use Rattle.std.specs.Prelude.{◌≡◌, ◌≢◌, IfSome, IfNone};
 ghost use Rattle.arguments.specs.Options.{colouring_word};
+ghost use Rattle.arguments.specs.declared.colouring.Colouring.{Colouring};
 
-use grammar::Keyword;
+use grammar::{Keyword, find_keyword};
 
 /// What the colours of a picture go by, after `--by`.
 #[derive(Clone, Copy)]
@@ -36,4 +38,12 @@ impl Keyword for Colouring {
             Colouring::Age => b"age",
         }
     }
+}
+
+/// Reads what colours go by.
+pub(crate) fn read_colouring(word: &[u8]) -> Option<Colouring>
+    ensures found { IfSome result (λ by. word.now ≡ colouring_word by) }
+    ensures none { IfNone result ((by : Colouring) → word.now ≢ colouring_word by) }
+{
+    find_keyword(&COLOURINGS, word)
 }

@@ -1,13 +1,10 @@
-//! `Grouping`: what makes records one group for `risk`, which is `source`, `peer` or `network`.
+//! The reader of what makes records one group.
 
-ghost use Rattle.std.specs.Prelude.{◌≡◌, map, string_bytes, Some, IfSome};
-ghost use Rattle.arguments.specs.Options.{IsAfterGrouping, grouping_word};
+ghost use Rattle.std.specs.Prelude.{◌≡◌, ◌≢◌, IfSome, IfNone};
+ghost use Rattle.arguments.specs.Options.{grouping_word};
 ghost use Rattle.arguments.specs.declared.grouping.Grouping.{Grouping};
-ghost use Rattle.peers_file.specs.declared.chain.Chain.{Chain};
 
-use crate::options::{first_word, read_net};
 use grammar::{Keyword, find_keyword};
-use peers_file::Chain;
 
 /// What makes records one group.
 #[derive(Clone, Copy)]
@@ -35,20 +32,10 @@ impl Keyword for Grouping {
     }
 }
 
-/// Reads what makes records one group, and after it the arguments that choose a chain.
-pub(crate) fn read_after_grouping(words: &[String]) -> Option<(Grouping, Chain)>
-    ensures found { IfSome result (λ o. IsAfterGrouping o.0 (map string_bytes words.now) o.1) }
-    ensures only { (by : Grouping) (chain : Chain) →
-        IsAfterGrouping by (map string_bytes words.now) chain → result ≡ Some (by, chain) }
+/// Reads what makes records one group.
+pub(crate) fn read_grouping(word: &[u8]) -> Option<Grouping>
+    ensures found { IfSome result (λ by. word.now ≡ grouping_word by) }
+    ensures none { IfNone result ((by : Grouping) → word.now ≢ grouping_word by) }
 {
-    let Some((word, rest)) = first_word(words) else {
-        return None;
-    };
-    let Some(by) = find_keyword(&GROUPINGS, word) else {
-        return None;
-    };
-    match read_net(rest) {
-        Some(chain) => Some((by, chain)),
-        None => None,
-    }
+    find_keyword(&GROUPINGS, word)
 }

@@ -1,12 +1,13 @@
-//! `CommandName` and `NAMES`: the words of the commands, and the page of each.
+//! The names of the commands.
 
-ghost use Rattle.std.specs.Prelude.{◌≡◌};
+ghost use Rattle.std.specs.Prelude.{◌≡◌, ◌≢◌, IfSome, IfNone};
 ghost use Rattle.arguments.specs.Help.{page_of};
 ghost use Rattle.arguments.specs.Table.{command_word};
+ghost use Rattle.arguments.specs.declared.name.CommandName.{CommandName};
 
 use crate::pages;
 use crate::pages::Page;
-use grammar::Keyword;
+use grammar::{Keyword, find_keyword};
 
 /// The name of a command, which is the first argument.
 #[derive(Clone, Copy, Debug)]
@@ -96,6 +97,14 @@ impl Keyword for CommandName {
             CommandName::Version => b"version",
         }
     }
+}
+
+/// Reads the name of a command.
+pub fn read_name(word: &[u8]) -> Option<CommandName>
+    ensures found { IfSome result (λ name. word.now ≡ command_word name) }
+    ensures none { IfNone result ((name : CommandName) → word.now ≢ command_word name) }
+{
+    find_keyword(&NAMES, word)
 }
 
 impl CommandName {

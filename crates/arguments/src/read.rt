@@ -1,211 +1,106 @@
-//! `read_request` reads the arguments after the name of each command.
+//! The reader of the arguments of the command line.
 
-ghost use Rattle.std.specs.Prelude.{◌≡◌, ◌↔◌, [], ◌∷◌, codes, length, map, string_bytes, Some, IfSome, IfNone, IsTrue};
-ghost use Rattle.arguments.specs.Table.{AddressOrLines, Asks, Fields, HasNoValues, IsProperRequest, Listing, PeerOrLines, Reads, ForBans, TheBanFields, TheFields, form_of, name_of, request_values};
-ghost use Rattle.arguments.specs.declared.name.CommandName.TheVariants as name;
+ghost use Rattle.std.specs.Prelude.{◌≡◌, ℕ, List, ◌∷◌, map, string_bytes, Ok, Some, IfOk, IfErr};
+ghost use Rattle.std.specs.Option.{option_map};
+ghost use Rattle.arguments.specs.Inside.{IsRead, SaysNothing};
+ghost use Rattle.arguments.specs.Seen.{IsFormFault};
+ghost use Rattle.arguments.specs.Table.{Asks, IsProperRequest, command_word, fault_after, plain_word};
+ghost use Rattle.arguments.specs.declared.name.CommandName.{CommandName};
 ghost use Rattle.arguments.specs.declared.request.Request.{Request};
+ghost use Rattle.forms.specs.Forms.{Wrong};
+ghost use Rattle.forms.specs.Seen.{the_fault};
 
 use crate::Request;
-use crate::address::read_address;
-use crate::bans::{cut_ban_rule, read_period, read_subnet};
-use crate::commands::{plain_word, read_command};
-use crate::file_kind::{
-    read_file_kind, read_keyed_kind, read_listing_kind, read_opening_kind, read_records,
+use crate::bans::{read_ban, read_banned, read_bans, read_unban};
+use crate::commands::{plain_word, read_address, read_gen, read_help, read_lookup, read_trial};
+use crate::fault::{UsageFault, ValueFault};
+use crate::name::{CommandName, read_name};
+use crate::options::first_word;
+use crate::peers_commands::{
+    read_diff, read_from_raw, read_opener, read_raw, read_replay, read_show,
 };
-use crate::name::{CommandName, NAMES};
-use crate::opener_options::read_opener;
-use crate::options::{first_word, only_word, read_after_word};
-use crate::tables_from::{read_picture, read_risk, read_tables};
-use ban_list::{BanRule, texts_have_one_meaning};
-use gen_load::MAX_LINES;
-use grammar::{Between, Fields, LongBetween, OnePeer, find_keyword, read_fields};
-use std::alloc::Global;
+use crate::table_commands::{read_groups, read_info, read_picture, read_risk};
+use ban_list::texts_have_one_meaning;
+use forms::{Fault, form_fault};
 
-/// A time in seconds since 1970.
-type Time = Between<0, { u32::MAX }>;
-
-/// The number of a generated log, and how many lines it has.
-type Load = (
-    LongBetween<0, { u64::MAX }>,
-    (Between<1, { MAX_LINES }>, ()),
-);
-
-/// Returns the request that the arguments ask for, or `None` if they are not those of a command.
-pub fn read_request(alloc: Global, words: &[String]) -> Option<Request>
-    ensures found { IfSome result (Asks (map string_bytes words.now)) }
+/// Returns the request that the arguments ask for, or what is wrong with them: of those after a
+/// command that are not of its form the first fault from the left.
+pub fn read_request(words: &[String]) -> Result<Request, UsageFault<'_>>
+    ensures found { IfOk result (Asks (map string_bytes words.now)) }
     ensures only { (request : Request) → Asks (map string_bytes words.now) request →
-        result ≡ Some request }
-    ensures proper { IfSome result IsProperRequest }
+        result ≡ Ok request }
+    ensures first { (name : CommandName) (word : List ℕ) (texts : List (List ℕ)) (wrong : Wrong) →
+        map string_bytes words.now ≡ word ∷ texts → plain_word word ≡ command_word name →
+        fault_after name texts ≡ Some wrong → IfErr result (IsFormFault name wrong) }
+    ensures proper { IfOk result IsProperRequest }
 {
     texts_have_one_meaning();
-    request_of(alloc, words)
+    request_of(words)
 }
 
 /// Reads the name of the command, and then its arguments.
-fn request_of(alloc: Global, words: &[String]) -> Option<Request>
-    ensures found { IfSome result (Asks (map string_bytes words.now)) }
+fn request_of(words: &[String]) -> Result<Request, UsageFault<'_>>
+    ensures found { IfOk result (Asks (map string_bytes words.now)) }
     ensures only { (request : Request) → Asks (map string_bytes words.now) request →
-        result ≡ Some request }
+        result ≡ Ok request }
+    ensures first { (name : CommandName) (word : List ℕ) (texts : List (List ℕ)) (wrong : Wrong) →
+        map string_bytes words.now ≡ word ∷ texts → plain_word word ≡ command_word name →
+        fault_after name texts ≡ Some wrong → IfErr result (IsFormFault name wrong) }
 {
-    let (word, rest) = first_word(words)?;
+    let Some((word, rest)) = first_word(words) else {
+        return Err(UsageFault::NoCommand);
+    };
     let plain = plain_word(word);
-    let name = find_keyword(&NAMES, plain)?;
-    read_after(alloc, name, rest)
+    let Some(name) = read_name(plain) else {
+        return Err(UsageFault::Unknown(word));
+    };
+    match fault_of(name, rest) {
+        Some(fault) => Err(UsageFault::Form(name, fault)),
+        None => match read_after(name, rest) {
+            Ok(request) => Ok(request),
+            Err(fault) => Err(UsageFault::Value(name, fault)),
+        },
+    }
 }
 
-/// Reads the arguments after the name of a command.
-#[tactic(auto, using(crate::proofs::Asking::if_none))]
-fn read_after(alloc: Global, name: CommandName, rest: &[String]) -> Option<Request>
-    ensures found { IfSome result (λ request. (name_of request ≡ name)
-        × Reads (form_of name) (map string_bytes rest.now) (request_values request)) }
-    ensures none { IfNone result (HasNoValues (form_of name) (map string_bytes rest.now)) }
+/// Returns the first fault of arguments after the name of a command that are not of its form.
+fn fault_of(name: CommandName, words: &[String]) -> Option<Fault<'_>>
+    ensures { option_map (λ fault. the_fault fault) result
+        ≡ fault_after name (map string_bytes words.now) }
+{
+    let form = name.form();
+    form_fault(&form, words)
+}
+
+/// Reads the arguments after the name of a command, which are of its form.
+fn read_after(name: CommandName, words: &[String]) -> Result<Request, ValueFault>
+    ensures found { IfOk result (IsRead name (map string_bytes words.now)) }
+    ensures none { IfErr result (λ fault. SaysNothing name (map string_bytes words.now)) }
 {
     match name {
-        CommandName::Replay => {
-            let (key, kind) = read_opening_kind(rest)?;
-            Some(Request::Replay { key, kind })
-        }
-        CommandName::Opener => read_opener(rest),
-        CommandName::Compile => only_name(rest, Request::Compile),
-        CommandName::Check => only_name(rest, Request::Check),
-        CommandName::Decompile => only_name(rest, Request::Decompile),
-        CommandName::Diff => Some(Request::Diff {
-            peers: read_records(rest)?,
-        }),
-        CommandName::Limit => only_name(rest, Request::Limit),
-        CommandName::Lookup => read_lookup(alloc, rest),
-        CommandName::Address => read_addresses(rest),
-        CommandName::Show => read_show(rest),
-        CommandName::Picture => read_picture(rest),
-        CommandName::Raw => Some(Request::Raw {
-            kind: read_file_kind(rest)?,
-        }),
-        CommandName::Info => Some(Request::Info {
-            from: read_tables(rest)?,
-        }),
-        CommandName::Groups => Some(Request::Groups {
-            from: read_tables(rest)?,
-        }),
-        CommandName::Risk => read_risk(rest),
-        CommandName::FromRaw => read_keyed_kind(rest),
-        CommandName::Ban => read_period(rest),
-        CommandName::Unban => read_subnet(rest),
-        CommandName::Banned => {
-            let (rule, (peer, (now, ()))) = read_for_bans::<(OnePeer, (Time, ()))>(alloc, 2, rest)?;
-            Some(Request::Banned { rule, peer, now })
-        }
-        CommandName::Bans => {
-            let (rule, (now, ())) = read_for_bans::<(Time, ())>(alloc, 1, rest)?;
-            Some(Request::Bans { rule, now })
-        }
-        CommandName::Gen => {
-            let (start, (lines, ())) = read_values::<Load>(alloc, rest)?;
-            Some(Request::Gen { start, lines })
-        }
-        CommandName::Trial => {
-            let (start, (lines, ())) = read_values::<Load>(alloc, rest)?;
-            Some(Request::Trial { start, lines })
-        }
-        CommandName::Help => read_command(rest),
-        CommandName::Version => only_name(rest, Request::Version),
+        CommandName::Replay => read_replay(words),
+        CommandName::Opener => read_opener(words),
+        CommandName::Limit => Ok(Request::Limit),
+        CommandName::Show => read_show(words),
+        CommandName::Picture => read_picture(words),
+        CommandName::Raw => read_raw(words),
+        CommandName::Info => read_info(words),
+        CommandName::Groups => read_groups(words),
+        CommandName::Risk => read_risk(words),
+        CommandName::FromRaw => read_from_raw(words),
+        CommandName::Compile => Ok(Request::Compile),
+        CommandName::Decompile => Ok(Request::Decompile),
+        CommandName::Diff => read_diff(words),
+        CommandName::Check => Ok(Request::Check),
+        CommandName::Lookup => read_lookup(words),
+        CommandName::Address => read_address(words),
+        CommandName::Ban => read_ban(words),
+        CommandName::Unban => read_unban(words),
+        CommandName::Banned => read_banned(words),
+        CommandName::Bans => read_bans(words),
+        CommandName::Gen => read_gen(words),
+        CommandName::Trial => read_trial(words),
+        CommandName::Help => read_help(words),
+        CommandName::Version => Ok(Request::Version),
     }
-}
-
-/// Reads the argument after `lookup`, a peer or `-`.
-#[tactic(auto, unfolding(crate::specs::Table::HasNoValues))]
-fn read_lookup(alloc: Global, rest: &[String]) -> Option<Request>
-    ensures found { IfSome result (λ request. (name_of request ≡ name.Lookup)
-        × Reads PeerOrLines (map string_bytes rest.now) (request_values request)) }
-    ensures none { IfNone result (HasNoValues PeerOrLines (map string_bytes rest.now)) }
-{
-    if is_dash(rest) {
-        return Some(Request::LookupLines);
-    }
-    match read_values::<(OnePeer, ())>(alloc, rest) {
-        Some((peer, ())) => Some(Request::Lookup { peer }),
-        None => None,
-    }
-}
-
-/// Reads the arguments after `show`, which ask for anchors, or else for what peers.dat has.
-fn read_show(rest: &[String]) -> Option<Request>
-    ensures found { IfSome result (λ request. (name_of request ≡ name.Show)
-        × Reads Listing (map string_bytes rest.now) (request_values request)) }
-    ensures none { IfNone result (HasNoValues Listing (map string_bytes rest.now)) }
-{
-    if let Some(chain) = read_after_word(rest, b"--anchors") {
-        return Some(Request::Anchors { chain });
-    }
-    match read_listing_kind(rest) {
-        Some((keyed, kind)) => Some(Request::Show { keyed, kind }),
-        None => None,
-    }
-}
-
-/// Reads the argument after `address`, `-` or else the text of an address.
-fn read_addresses(rest: &[String]) -> Option<Request>
-    ensures found { IfSome result (λ request. (name_of request ≡ name.Address)
-        × Reads AddressOrLines (map string_bytes rest.now) (request_values request)) }
-    ensures none { IfNone result (HasNoValues AddressOrLines (map string_bytes rest.now)) }
-{
-    if is_dash(rest) {
-        return Some(Request::AddressLines);
-    }
-    match read_address(rest) {
-        Some(addr) => Some(Request::Address { addr }),
-        None => None,
-    }
-}
-
-/// Returns `true` if the only argument is `-`.
-fn is_dash(rest: &[String]) -> bool
-    ensures { IsTrue result ↔ (map string_bytes rest.now ≡ codes "-" ∷ []) }
-{
-    match only_word(rest) {
-        Some(word) => word == b"-".as_slice(),
-        None => false,
-    }
-}
-
-/// Reads arguments that are fields, or returns `None` if they are too few or too many or one is not
-/// in form.
-fn read_values<'a, R: Fields<&'a [String]>>(alloc: Global, rest: &'a [String]) -> Option<R::Out>
-    requires { ¬ R.can_run_out }
-    ensures found { IfSome result (λ x.
-        Reads (Fields R.kinds) (map string_bytes rest.now) (TheFields (R.values x))) }
-    ensures none { IfNone result (HasNoValues (Fields R.kinds) (map string_bytes rest.now)) }
-{
-    match read_fields::<&'a [String], R>(alloc, rest) {
-        Ok(values) => Some(values),
-        Err(_) => None,
-    }
-}
-
-/// Reads arguments for a list of bans: `--core`, if the list is Bitcoin Core's, and `count` fields.
-fn read_for_bans<'a, R: Fields<&'a [String]>>(
-    alloc: Global,
-    count: usize,
-    words: &'a [String],
-) -> Option<(BanRule, R::Out)>
-    requires memory { ¬ R.can_run_out }
-    requires count { length R.kinds ≡ count }
-    ensures found { IfSome result (λ o. Reads (ForBans R.kinds) (map string_bytes words.now)
-        (TheBanFields o.0 (R.values o.1))) }
-    ensures none { IfNone result (HasNoValues (ForBans R.kinds) (map string_bytes words.now)) }
-{
-    let (rule, rest) = cut_ban_rule(words, count);
-    match read_values::<R>(alloc, rest) {
-        Some(values) => Some((rule, values)),
-        None => None,
-    }
-}
-
-/// Returns the request if there are no arguments after the name.
-#[tactic(auto, unfolding(crate::specs::Table::HasNoValues))]
-fn only_name(rest: &[String], request: Request) -> Option<Request>
-    ensures found { IfSome result (λ asked. (asked ≡ request)
-        × Reads (Fields []) (map string_bytes rest.now) (TheFields [])) }
-    ensures none { IfNone result (HasNoValues (Fields []) (map string_bytes rest.now)) }
-{
-    if rest.is_empty() { Some(request) } else { None }
 }

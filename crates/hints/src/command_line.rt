@@ -1,203 +1,177 @@
-//! Which argument is wrong (`usage_hint`), the options of `risk` and `show`, and the options that
-//! name files.
+//! Which argument of the command line is wrong (`usage_hint`).
 
 use crate::keyword_fields::{expected_text, explain, unknown_keyword};
-use crate::log_line::{SET, set_text};
-use crate::option_names::{before_command, rare_option};
-use crate::options::{explain_options, missing_value, wrong_option};
+use crate::option_names::{before_command, not_beside, not_taken, unknown_option};
+use crate::options::{explain_option, flag, no_place, wanted};
 use crate::syntax::Reader;
-use arguments::MAX_MARKS;
-use risk_parts::parse_set;
+use arguments::{CommandName, MAX_MARKS, UsageFault, ValueFault, read_name, read_request};
+use forms::{Fault, OptionName, Values, form_fault, place, values_in};
+use grammar::Keyword;
 use std::alloc::{AllocError, Global};
-
-/// What makes records one group in the form of `risk`.
-static GROUPINGS: [&str; 4] = ["source", "peer", "network", "-"];
-
-/// Returns the arguments after `--peers` or `--no-key`, if they begin with it and the form has it.
-/// `--no-key` may come last, too.
-fn after_flag<'a>(form: &str, words: &'a [String]) -> &'a [String] {
-    match words {
-        [first, rest @ ..] if is_flag(form, first.as_str()) => rest,
-        [rest @ .., last] if last.as_str() == "--no-key" && form.contains("--no-key") => rest,
-        _ => words,
-    }
-}
-
-/// Returns `true` if an argument is an option of the form without a value.
-fn is_flag(form: &str, word: &str) -> bool {
-    (word == "--peers" || word == "--no-key") && form.contains(word)
-}
-
-/// The form of `show` for a file of anchors.
-const ANCHORS_FORM: &str = "show --anchors [--net CHAIN]";
 
 /// What is said of `risk -` with `--raw -`.
 const ONE_INPUT: &str = "risk - cannot be combined with --raw -: both read standard input";
 
-/// Returns how many of the arguments after `risk` are `--core` and `--raw -`, which are before what
-/// makes records one group.
-fn front_length(words: &[String]) -> usize {
-    let mut is_raw = false;
-    for (i, word) in words.iter().enumerate() {
-        let word = word.as_str();
-        let is_value = is_raw && word == "-";
-        is_raw = word == "--raw";
-        if !is_value && !is_raw && word != "--core" && word != "--raw=-" {
-            return i;
-        }
-    }
-    words.len()
-}
-
-/// Returns `true` if one of the options is `--raw`.
-fn has_raw(words: &[String]) -> bool {
-    for word in words {
-        if word.as_str().starts_with("--raw") {
-            return true;
-        }
-    }
-    false
-}
-
-/// Says which argument of `risk` is wrong: what makes records one group, or an option.
-fn risk_hint(alloc: Global, form: &'static str, words: &[String]) -> Result<String, AllocError> {
-    let length = front_length(words);
-    let front = words.get(..length).unwrap_or(words);
-    if let Some(text) = wrong_option(alloc, form, front)? {
-        return Ok(text);
-    }
-    match words.get(length..).unwrap_or(&[]) {
-        [first, ..] if first.as_str() == "-" && has_raw(front) => {
-            String::from_str(alloc, ONE_INPUT)
-        }
-        [first, options @ ..] if GROUPINGS.contains(&first.as_str()) => {
-            explain_options(alloc, form, options)
-        }
-        [first, ..] => expected_text(alloc, "source, peer, network or -", first.as_bytes(), ""),
-        [] => format!(in alloc; "expected \"{form}\""),
-    }
-}
-
-/// Returns the index of `--mark`.
-fn mark_index(words: &[String]) -> Option<usize> {
-    for (i, word) in words.iter().enumerate() {
-        if word.as_str() == "--mark" {
-            return Some(i);
-        }
-    }
-    None
-}
-
-/// Returns `true` if one of the options is `--by`.
-fn has_by(words: &[String]) -> bool {
-    for word in words {
-        if word.as_str() == "--by" || word.as_str().starts_with("--by=") {
-            return true;
-        }
-    }
-    false
-}
-
-/// Says which argument of `picture` is wrong: an option, or a set after `--mark`, which is the last
-/// one.
-fn picture_hint(alloc: Global, form: &'static str, words: &[String]) -> Result<String, AllocError> {
-    let Some(index) = mark_index(words) else {
-        return explain_options(alloc, form, words);
-    };
-    let options = words.get(..index).unwrap_or(words);
-    if let Some(text) = wrong_option(alloc, form, options)? {
-        return Ok(text);
-    }
-    if has_by(options) {
-        return String::from_str(
-            alloc,
-            "--mark cannot be combined with --by: both choose the colours",
-        );
-    }
-    let sets = words.get(index.saturating_add(1)..).unwrap_or(&[]);
-    for set in sets {
-        if set.as_str() == "--mark" {
-            return String::from_str(alloc, "--mark is given twice");
-        }
-        if parse_set(set.as_bytes()).is_none() {
-            let said = set_text(alloc, set.as_bytes())?;
-            return format!(in alloc; "--mark: {}", said.as_str());
-        }
-    }
-    if sets.len() > MAX_MARKS {
-        return format!(in alloc;
-            "--mark: at most {MAX_MARKS} sets are allowed, not {}",
-            sets.len()
-        );
-    }
-    format!(in alloc; "expected \"{form}\"")
-}
-
-/// Returns what the arguments of a command are read as.
-fn reader_of(command: &[u8], rest: &[String]) -> Reader {
-    let is_core = match rest {
-        [first, ..] => first.as_str() == "--core",
-        [] => false,
-    };
-    if is_core && Reader::CoreBans.find_form(command).is_some() {
-        Reader::CoreBans
-    } else {
-        Reader::Arguments
-    }
-}
-
-/// Says which argument is wrong, and what it has to be. The arguments are not those of a command.
-pub fn usage_hint(alloc: Global, words: &[String]) -> Result<String, AllocError> {
-    let Some((command, rest)) = words.split_first() else {
+/// Says which argument of the line is wrong, and what it has to be; `words` are those of `run`,
+/// which ask for nothing.
+pub fn usage_hint(alloc: Global, line: &[String], words: &[String]) -> Result<String, AllocError> {
+    let Some((command, rest)) = line.split_first() else {
         return String::from_str(
             alloc,
             "expected a command, for example addrman lookup 1.2.3.4:8333",
         );
     };
-    if command.as_str().starts_with("-") {
-        return before_command(alloc, command.as_str());
+    let command = if command.as_str() == "-V" {
+        "version"
+    } else {
+        command.as_str()
+    };
+    if command.starts_with("-") {
+        return before_command(alloc, command);
     }
-    if let Some(form) = Reader::Arguments.find_form(command.as_bytes()) {
-        if let Some(option) = rare_option(form, rest) {
-            return format!(in alloc;
-                "{} is not an option of {}, only of {}",
-                option.flag,
-                command.as_str(),
-                option.commands
-            );
+    let form = Reader::Arguments.find_form(command.as_bytes());
+    let (Some(name), Some(form)) = (read_name(command.as_bytes()), form) else {
+        return unknown_keyword(alloc, Reader::Arguments, command.as_bytes());
+    };
+    let asked = Asked { name, form, rest };
+    if let Some(fault) = form_fault(&name.line_form(), rest) {
+        return asked.fault_text(alloc, fault);
+    }
+    match read_request(words) {
+        Err(UsageFault::Value(_, ValueFault::Option(option))) => asked.option_text(alloc, option),
+        Err(UsageFault::Value(_, ValueFault::Place(index))) => asked.place_text(alloc, index),
+        _ => asked.form_text(alloc),
+    }
+}
+
+/// A command, its form as text, and the arguments after it.
+#[derive(Clone, Copy)]
+struct Asked<'a> {
+    name: CommandName,
+    form: &'static str,
+    rest: &'a [String],
+}
+
+impl Asked<'_> {
+    /// Says which form is expected.
+    fn form_text(&self, alloc: Global) -> Result<String, AllocError> {
+        format!(in alloc; "expected \"{}\"", self.form)
+    }
+
+    /// Says why the arguments are not of the form.
+    fn fault_text(&self, alloc: Global, fault: Fault<'_>) -> Result<String, AllocError> {
+        match fault {
+            Fault::Unknown(word) => {
+                let word = str::from_utf8(word).unwrap_or("");
+                unknown_option(alloc, self.form, self.name, word)
+            }
+            Fault::NotTaken(option) => not_taken(alloc, self.form, option),
+            Fault::NoValue(option) => {
+                format!(in alloc; "{}: expected {}", flag(option), wanted(option))
+            }
+            Fault::NoFlag(option) => format!(in alloc; "{} takes no value", flag(option)),
+            Fault::Beside(first, second) => not_beside(alloc, first, second),
+            Fault::TooMany(text) => self.many_text(alloc, text),
+            Fault::TooFew if matches!(self.name, CommandName::Risk) => self.form_text(alloc),
+            Fault::TooFew => self.fields_text(alloc),
         }
-        if let Some(text) = missing_value(alloc, form, rest)? {
-            return Ok(text);
-        }
-        if form.starts_with("risk ") {
-            return risk_hint(alloc, form, rest);
-        }
-        if form.starts_with("picture ") {
-            return picture_hint(alloc, form, rest);
-        }
-        if let [first, options @ ..] = rest {
-            if first.as_str() == "--anchors" {
-                return explain_options(alloc, ANCHORS_FORM, options);
+    }
+
+    /// Says that an argument is one too many.
+    fn many_text(&self, alloc: Global, text: &[u8]) -> Result<String, AllocError> {
+        if let Some(Values::Apart(sets)) = values_in(OptionName::Mark, self.rest) {
+            if sets.len() == MAX_MARKS {
+                let count = sets.len().saturating_add(self.places(alloc)?.len());
+                return format!(in alloc;
+                    "--mark: at most {MAX_MARKS} sets are allowed, not {count}"
+                );
             }
         }
-        if form.contains("--") {
-            return explain_options(alloc, form, after_flag(form, rest));
+        if self.lacks_file() {
+            return String::from_str(alloc, "--peers: expected a file");
+        }
+        if !self.form.contains("--") {
+            return self.fields_text(alloc);
+        }
+        no_place(alloc, self.form, str::from_utf8(text).unwrap_or(""))
+    }
+
+    /// Returns `true` if there is `--peers` without the file that every command but `diff` wants.
+    fn lacks_file(&self) -> bool {
+        match (self.name, values_in(OptionName::Peers, self.rest)) {
+            (CommandName::Diff, _) => false,
+            (_, Some(Values::Apart([]))) => true,
+            _ => false,
         }
     }
-    if command.as_str() == "help" {
-        if let [name] = rest {
-            return unknown_keyword(alloc, Reader::Arguments, name.as_bytes());
+
+    /// Says which value of an option is wrong, or that the option is left out.
+    fn option_text(&self, alloc: Global, option: OptionName) -> Result<String, AllocError> {
+        let said = match values_in(option, self.rest) {
+            Some(Values::Apart(values)) => first_wrong(alloc, option, values)?,
+            Some(Values::Joined(value)) => {
+                explain_option(alloc, option, str::from_utf8(value).unwrap_or(""))?
+            }
+            None => None,
+        };
+        match said {
+            Some(text) => Ok(text),
+            None if matches!((self.name, option), (CommandName::Risk, OptionName::Raw)) => {
+                String::from_str(alloc, ONE_INPUT)
+            }
+            None => self.form_text(alloc),
         }
     }
-    let mut fields = Vec::new(alloc);
-    for word in rest {
-        fields.push(word.as_bytes())?;
+
+    /// Says what the argument of an index among those in places of their own has to be.
+    fn place_text(&self, alloc: Global, index: usize) -> Result<String, AllocError> {
+        let text = place(index, self.rest).unwrap_or(b"");
+        match self.name {
+            CommandName::Risk => expected_text(alloc, "source, peer, network or -", text, ""),
+            CommandName::Help => unknown_keyword(alloc, Reader::Arguments, text),
+            _ => self.fields_text(alloc),
+        }
     }
-    let wrong = explain(
-        alloc,
-        reader_of(command.as_bytes(), rest),
-        command.as_bytes(),
-        fields.as_slice(),
-    )?;
-    Ok(wrong.text)
+
+    /// Says which of the arguments in places of their own is wrong, or that they are too few or too
+    /// many.
+    fn fields_text(&self, alloc: Global) -> Result<String, AllocError> {
+        let keyword = self.name.word();
+        let fields = self.places(alloc)?;
+        let has_core = values_in(OptionName::Core, self.rest).is_some();
+        if !has_core || Reader::CoreBans.find_form(keyword).is_none() {
+            let wrong = explain(alloc, Reader::Arguments, keyword, fields.as_slice())?;
+            return Ok(wrong.text);
+        }
+        let mut all = Vec::new(alloc);
+        all.push(b"--core".as_slice())?;
+        all.extend_from_slice(fields.as_slice())?;
+        let wrong = explain(alloc, Reader::CoreBans, keyword, all.as_slice())?;
+        Ok(wrong.text)
+    }
+
+    /// Returns the arguments in places of their own.
+    fn places(&self, alloc: Global) -> Result<Vec<&[u8]>, AllocError> {
+        let mut texts = Vec::new(alloc);
+        for i in 0..self.rest.len() {
+            if let Some(text) = place(i, self.rest) {
+                texts.push(text)?;
+            }
+        }
+        Ok(texts)
+    }
+}
+
+/// Says what is wrong with the first value that is wrong.
+fn first_wrong(
+    alloc: Global,
+    option: OptionName,
+    values: &[String],
+) -> Result<Option<String>, AllocError> {
+    for value in values {
+        if let Some(text) = explain_option(alloc, option, value.as_str())? {
+            return Ok(Some(text));
+        }
+    }
+    Ok(None)
 }

@@ -1,153 +1,141 @@
 //! Names of options: which commands have them, and which one a wrong name is like.
 
 use crate::keyword_fields::nearest;
+use crate::options::flag;
 use crate::quoting::quoted;
 use crate::syntax::keyword_of;
+use arguments::{CommandName, NAMES};
+use forms::OptionName;
+use grammar::Keyword;
 use std::alloc::{AllocError, Global};
-
-/// The options that may come after a command.
-static OPTIONS: [&str; 17] = [
-    "--help",
-    "--key",
-    "--key-file",
-    "--net",
-    "--magic",
-    "--core",
-    "--no-key",
-    "--peers",
-    "--asmap",
-    "--anchors",
-    "--bans",
-    "--raw",
-    "--by",
-    "--mark",
-    "--exempt",
-    "--services",
-    "--skip-bad-ports",
-];
 
 /// The options that are commands.
 static COMMANDS: [&str; 2] = ["--help", "--version"];
 
-/// An option that few commands have, and these.
-pub(crate) struct RareOption {
-    pub flag: &'static str,
-    pub commands: &'static str,
-}
-
-/// The options that few commands have.
-static RARE_OPTIONS: [RareOption; 10] = [
-    RareOption {
-        flag: "--peers",
-        commands: "show, picture, raw, info, groups, risk and diff",
-    },
-    RareOption {
-        flag: "--asmap",
-        commands: "picture, raw, info, groups, risk, from-raw, diff, check, lookup, decompile \
-                   and address",
-    },
-    RareOption {
-        flag: "--anchors",
-        commands: "show",
-    },
-    RareOption {
-        flag: "--bans",
-        commands: "banned and bans",
-    },
-    RareOption {
-        flag: "--raw",
-        commands: "picture, info, groups and risk",
-    },
-    RareOption {
-        flag: "--by",
-        commands: "picture",
-    },
-    RareOption {
-        flag: "--mark",
-        commands: "picture",
-    },
-    RareOption {
-        flag: "--exempt",
-        commands: "opener",
-    },
-    RareOption {
-        flag: "--services",
-        commands: "opener",
-    },
-    RareOption {
-        flag: "--skip-bad-ports",
-        commands: "opener",
-    },
-];
-
-/// Returns the option of other commands, if an argument is one.
-pub(crate) fn rare_option(form: &str, words: &[String]) -> Option<&'static RareOption> {
-    for option in &RARE_OPTIONS {
-        for word in words {
-            let begins = word.as_str().strip_prefix(option.flag);
-            if !form.contains(option.flag)
-                && begins.is_some_and(|rest| rest.is_empty() || rest.starts_with("="))
-            {
-                return Some(option);
-            }
-        }
+/// Returns `true` if few commands take an option, so that these are named.
+fn is_rare(option: OptionName) -> bool {
+    match option {
+        OptionName::Key
+        | OptionName::KeyFile
+        | OptionName::Net
+        | OptionName::Magic
+        | OptionName::Core
+        | OptionName::NoKey => false,
+        _ => true,
     }
-    None
 }
 
-/// Returns `true` if a command, whose form this is, has an option.
-fn has_option(form: &'static str, name: &str) -> bool {
-    let in_form = match name {
-        "--key-file" => "--key",
-        "--magic" => "--net",
-        other => other,
-    };
-    OPTIONS.contains(&name)
-        && (name == "--help" || form.contains(in_form) || is_rare_of(keyword_of(form), name))
-}
-
-/// Returns `true` if a command is one of the few that have this option.
-fn is_rare_of(command: &str, name: &str) -> bool {
-    for option in &RARE_OPTIONS {
-        if option.flag == name {
-            for word in option.commands.split(' ') {
-                if word.strip_suffix(",").unwrap_or(word) == command {
-                    return true;
-                }
-            }
+/// Returns `true` if a command takes an option.
+fn takes(name: CommandName, option: OptionName) -> bool {
+    for other in name.line_options() {
+        if option.is_same(*other) {
+            return true;
         }
     }
     false
 }
 
-/// Says that a command has no option of this name, and which one it has that is like it; or what is
-/// wrong with one that it has, which takes no value.
+/// Returns the commands that take an option, as a list in a sentence.
+fn takers(alloc: Global, option: OptionName) -> Result<String, AllocError> {
+    let mut count: usize = 0;
+    for name in NAMES {
+        if takes(name, option) {
+            count = count.saturating_add(1);
+        }
+    }
+    let mut text = String::new(alloc);
+    let mut left = count;
+    for name in NAMES {
+        if takes(name, option) {
+            if left < count {
+                text.push_str(if left == 1 { " and " } else { ", " })?;
+            }
+            text.push_str(str::from_utf8(name.word()).unwrap_or(""))?;
+            left = left.saturating_sub(1);
+        }
+    }
+    Ok(text)
+}
+
+/// Says that a command does not take an option, and which do.
+pub(crate) fn not_taken(
+    alloc: Global,
+    form: &'static str,
+    option: OptionName,
+) -> Result<String, AllocError> {
+    let word = flag(option);
+    let command = keyword_of(form);
+    if !is_rare(option) {
+        return format!(in alloc; "\"{word}\" is not an option of {command}; expected \"{form}\"");
+    }
+    let others = takers(alloc, option)?;
+    format!(in alloc;
+        "{word} is not an option of {command}, only of {}",
+        others.as_str()
+    )
+}
+
+/// Says that there is no option of this name, and which option of the command is like it.
 pub(crate) fn unknown_option(
     alloc: Global,
     form: &'static str,
+    name: CommandName,
     word: &str,
 ) -> Result<String, AllocError> {
-    let flag = match word.split_once('=') {
-        Some((flag, _)) => flag,
+    let start = match word.split_once('=') {
+        Some((start, _)) => start,
         None => word,
     };
     let command = keyword_of(form);
-    if has_option(form, flag) {
-        let said = if flag == word {
-            "is given twice"
-        } else {
-            "takes no value"
-        };
-        return format!(in alloc; "{flag} {said}");
-    }
-    let shown = quoted(alloc, flag.as_bytes())?;
+    let shown = quoted(alloc, start.as_bytes())?;
     let shown = shown.as_str();
-    match nearest(alloc, &OPTIONS, flag.as_bytes())? {
-        Some(name) if has_option(form, name) => {
-            format!(in alloc; "{shown} is not an option of {command}; did you mean {name}?")
-        }
-        _ => format!(in alloc; "{shown} is not an option of {command}; expected \"{form}\""),
+    let mut names = Vec::new(alloc);
+    names.push("--help")?;
+    for option in name.line_options() {
+        names.push(flag(*option))?;
     }
+    match nearest(alloc, names.as_slice(), start.as_bytes())? {
+        Some(other) => {
+            format!(in alloc; "{shown} is not an option of {command}; did you mean {other}?")
+        }
+        None => format!(in alloc; "{shown} is not an option of {command}; expected \"{form}\""),
+    }
+}
+
+/// Says why two options are not beside each other, or that one comes twice.
+pub(crate) fn not_beside(
+    alloc: Global,
+    first: OptionName,
+    second: OptionName,
+) -> Result<String, AllocError> {
+    if first.is_same(second) {
+        return format!(in alloc; "{} is given twice", flag(first));
+    }
+    let known = match (first, second) {
+        (OptionName::Core, OptionName::Raw) | (OptionName::Raw, OptionName::Core) => {
+            "--core cannot be combined with --raw: a listing has no checksum"
+        }
+        (OptionName::Peers, OptionName::Raw) | (OptionName::Raw, OptionName::Peers) => {
+            "--peers: cannot be combined with --raw -"
+        }
+        (OptionName::Peers, OptionName::Anchors) | (OptionName::Anchors, OptionName::Peers) => {
+            "--peers: cannot be combined with --anchors"
+        }
+        (OptionName::By, OptionName::Mark) | (OptionName::Mark, OptionName::By) => {
+            "--mark cannot be combined with --by: both choose the colours"
+        }
+        (OptionName::Net, OptionName::Magic) | (OptionName::Magic, OptionName::Net) => {
+            "--net cannot be combined with --magic: both choose the chain"
+        }
+        (OptionName::Key, OptionName::KeyFile) | (OptionName::KeyFile, OptionName::Key) => {
+            "--key cannot be combined with --key-file: both give the key"
+        }
+        _ => "",
+    };
+    if known.is_empty() {
+        return format!(in alloc; "{} cannot be combined with {}", flag(first), flag(second));
+    }
+    String::from_str(alloc, known)
 }
 
 /// Says what comes before the options, or which command is like an option in its place.

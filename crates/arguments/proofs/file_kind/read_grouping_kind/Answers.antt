@@ -1,6 +1,0 @@
-use Rattle.std.proofs.Common.{rules}
-use Rattle.arguments.proofs.Asking.{no_grouping}
-use Rattle.arguments.proofs.file_kind.read_grouping_kind.Goals as goal
-
-pub returns-in-None-clause-none : goal.returns-in-None-clause-none
-returns-in-None-clause-none c = no_grouping _ _ _ c.cut_rule-rule.ensures.found c.cut_rule-rule.ensures.none _ (search rules) c.read_after_grouping.ensures.only

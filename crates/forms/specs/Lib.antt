@@ -1,0 +1,5 @@
+pub mod Forms
+pub mod Options
+pub mod Orders
+pub mod Pieces
+pub mod Seen
