@@ -290,10 +290,26 @@ ADDRMAN_API void addrman_close(addrman *am);
  * says how a node puts them in the place of its peers.dat.
  *   ADDRMAN_ERR_SHORT_BUFFER  nothing is written but *length, for which no file is made and no
  *                             memory is taken: call it without room to know the length
- * Proved: WriteCall (`file_text` of `snapshot_of`); the tables are as they were.
+ * Proved: WriteCall (`file_text` of `snapshot_of`); the tables are as they were. A node of Bitcoin
+ * Core loads the file as these tables (LoadsAsSaved), unless addrman_why_refused says otherwise.
  * Codes: CLOSED, ARGUMENT (there is no such chain), SHORT_BUFFER, MEMORY. */
 ADDRMAN_CALL_OF(1, 5) addrman_result addrman_write_file(addrman *am, addrman_chain chain,
     uint8_t *out, size_t capacity, size_t *length);
+
+/* Why a node of Bitcoin Core does not start with a file: the number of its check, without the sign,
+ * as its log has it (docs/FORMATS.md). */
+typedef uint32_t addrman_refusal;
+enum {
+    ADDRMAN_STARTS = 0,     /* it starts with the file */
+    ADDRMAN_NO_SUCCESS = 1, /* a tried record has a last success of 0 */
+    ADDRMAN_ZERO_KEY = 16   /* the key is 32 zero bytes */
+};
+
+/* Why a node of Bitcoin Core does not start with the file that addrman_write_file and
+ * addrman_save_begin write of the tables as they are. It takes the memory of a copy of the records.
+ * Proved: WhyCall (`refusal_of`); the tables are as they were.
+ * Codes: CLOSED, MEMORY. */
+ADDRMAN_CALL addrman_result addrman_why_refused(addrman *am, addrman_refusal *refusal);
 
 /* ------------------------------------------------------------------------------------ saves */
 
@@ -321,7 +337,8 @@ enum {
  * Proved: BeginCall. If the requests are carried out in their order, each after the one before has
  * succeeded, then a crash at any moment leaves peers.dat as it was or whole with these tables, and
  * after the last request always with these (`IsSafeSave`): of a disk that keeps the rules of
- * `Disk`, if nobody else changes the two files meanwhile.
+ * `Disk`, if nobody else changes the two files meanwhile. A node of Bitcoin Core loads the file as
+ * these tables (LoadsAsSaved), unless addrman_why_refused said otherwise of them.
  * Codes: CLOSED, ARGUMENT (there is no such chain, or `max` is 0), MEMORY. */
 ADDRMAN_CALL addrman_result addrman_save_begin(addrman_save *save, addrman *am,
     addrman_chain chain, uint32_t max);

@@ -438,6 +438,14 @@ public:
         });
     }
 
+    // Why a node of Bitcoin Core does not start with this file, or ADDRMAN_STARTS.
+    addrman_refusal why_refused()
+    {
+        addrman_refusal out{};
+        detail::check(addrman_why_refused(am_.get(), &out));
+        return out;
+    }
+
     // Which part of the picks falls to the peers of some sets, at most, in parts of a million.
     addrman_shares risk(view<addrman_set> sets, std::uint32_t now)
     {

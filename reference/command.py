@@ -283,6 +283,7 @@ class Run:
         self.read, self.write, self.folder = read, write, folder
         self.passed_over = ""
         self.sum_said = ""
+        self.refusal = ""
 
     def emit(self, data: bytes):
         """Writes bytes."""
@@ -372,7 +373,9 @@ class Run:
         flush()
 
     def replay(self, key: bytes | None, kind: FileKind):
-        self.each_line(ReplayLog(self.tables(key, kind), kind.start, self.folder).answer)
+        log = ReplayLog(self.tables(key, kind), kind.start, self.folder)
+        self.each_line(log.answer)
+        self.refusal = log.refusal
 
     def opener(self, key: bytes | None, kind: FileKind, rules: Rules):
         self.each_line(OpenerLog(self.tables(key, kind), rules).answer)
@@ -540,6 +543,7 @@ class Run:
         file = self.listed(lambda: raw_rows.file_of(raw_rows.read_raw(listing), key, asmap_sum))
         data = peers_file.written(file, kind.start)
         self.put("peers.tmp", "peers.dat", data)
+        self.refusal = peers_file.refusal(file)
         self.print(f"new {len(file.new)} tried {len(file.tried)} peers.dat {len(data)} bytes")
 
     def compile(self):
@@ -643,4 +647,6 @@ def run(arguments: list[str], read, write, folder: Folder, said: list[str] | Non
         said.append(carried_out.sum_said)
     if said is not None and carried_out.passed_over:
         said.append(carried_out.passed_over + "a ban has version 1, a subnet and two times")
+    if said is not None and carried_out.refusal:
+        said.append(carried_out.refusal)
     return 0, ""

@@ -4,7 +4,7 @@ import lines
 from addresses import Address, Peer, address_text, peer_text
 from folder import Failed, Folder, publish, write_file
 from messages import Entry, read_message
-from peers_file import written_file
+from peers_file import refusal, saved, written
 from tables import Record, Tables, clamped
 from text import Fault, Words
 
@@ -140,7 +140,8 @@ class TableLog:
 
 
 class ReplayLog(TableLog):
-    """The lines of a replay. `left` is what an open save has not written yet."""
+    """The lines of a replay. `left` is what an open save has not written yet; `refusal` is why Bitcoin Core does not start
+    with the file of the last save that was done, or an empty text."""
 
     kinds = TABLE_LINES | SAVE_LINES
 
@@ -148,6 +149,7 @@ class ReplayLog(TableLog):
         super().__init__(tables)
         self.chain, self.folder = chain, folder
         self.left: bytes | None = None
+        self.refusal = self.refusal_of_left = ""
 
     def reply(self, line: bytes) -> str:
         """Carries out a line that is not passed over; its reply."""
@@ -160,14 +162,17 @@ class ReplayLog(TableLog):
     def line_save(self) -> str:
         if self.left is not None:
             return "busy"
-        write_file(self.folder, TEMPORARY, NAME, written_file(self.tables, self.chain))
+        file = saved(self.tables)
+        write_file(self.folder, TEMPORARY, NAME, written(file, self.chain))
+        self.refusal = refusal(file)
         return "saved"
 
     def line_save_begin(self) -> str:
         if self.left is not None:
             return "busy"
         self.folder.create(TEMPORARY)
-        self.left = written_file(self.tables, self.chain)
+        file = saved(self.tables)
+        self.left, self.refusal_of_left = written(file, self.chain), refusal(file)
         return f"begun {len(self.left)}"
 
     def line_save_step(self, count: int) -> str:
@@ -183,4 +188,5 @@ class ReplayLog(TableLog):
         self.folder.append(TEMPORARY, self.left)
         publish(self.folder, TEMPORARY, NAME)
         self.left = None
+        self.refusal = self.refusal_of_left
         return "saved"

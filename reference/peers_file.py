@@ -168,6 +168,14 @@ def written(file: PeersFile, start: bytes) -> bytes:
     return data + places.double_sha256(data)
 
 
+def refusal(file: PeersFile) -> str:
+    """Why Bitcoin Core does not start with a file that it can read (`AddrManImpl::CheckAddrman`), or an empty text."""
+    said = "peers.dat: Bitcoin Core will not start with it: "
+    if any(record.success == 0 for record in file.tried):
+        return said + "a tried peer has no success (check -1)"
+    return "" if any(file.key) else said + "its key is zero (check -16)"
+
+
 def written_file(tables: Tables, start: bytes) -> bytes:
     """The file of the tables, in format 4."""
     return written(saved(tables), start)

@@ -112,6 +112,7 @@ int main()
     want(name_of(parse_name("2001:DB8::1")) == "2001:db8::1", "a name is another");
     tables core(key{}, s, {}, true);
     want(core.file(ADDRMAN_MAIN) == tables(key{}, s).file(ADDRMAN_MAIN), "no asmap has a checksum");
+    want(core.why_refused() == ADDRMAN_ZERO_KEY, "a node starts under a key of zeros");
     save first(two, ADDRMAN_MAIN, 1000), second(two, ADDRMAN_MAIN, 1000);
     second = std::move(first);
     want(second.next()->what == ADDRMAN_CREATE && is_closed([&] { first.next(); }), "saves are not moved");

@@ -45,7 +45,8 @@ def others():
                  am.judge(PEER, 0, NOW, 1) == "take", am.add(PEER, SOURCE, NOW, 1, 0, 0, NOW), am.attempt(PEER, True, NOW),
                  am.connected(PEER, NOW), am.set_services(PEER, 9), am.find(PEER).services == 9, am.resolve_collisions(NOW) == (0, 0, 0),
                  am.select_collision(1) is None, am.risk(["8.8.0.0/16", 5], NOW) == (1_000_000, 1_000_000, 0), am.risk([5], NOW).picks == 0,
-                 am.risk([], NOW) == (0, 0, 0)]
+                 am.risk([], NOW) == (0, 0, 0),
+                 am.why_refused() == (addrman.STARTS if any(KEY) else addrman.ZERO_KEY)]
     if not all(found):
         raise SystemExit(f"answer {found.index(False)} is another")
 

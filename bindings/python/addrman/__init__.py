@@ -20,6 +20,7 @@ OK, CLOSED, MEMORY, ARGUMENT, FULL, SHORT_WORDS, SHORT_BUFFER, REFUSED, NONE, EX
 UNROUTABLE, IPV4, IPV6, ONION, I2P, CJDNS, INTERNAL = range(7)
 ALL_NETS = 0x7F
 MAIN, TEST, SIGNET, REGTEST, TESTNET4 = range(5)
+STARTS, NO_SUCCESS, ZERO_KEY = 0, 1, 16
 OUTCOMES = ("unknown", "already", "clash", "moved")
 VERDICTS = ("take", "same-group", "recent")
 BAN_REPLIES = ("added", "kept", "full")
@@ -176,7 +177,7 @@ _SIGNATURES = {
     "addr_from_v1": [_P, _P], "addr_to_v1": [_P, _P], "addr_class": [_P, _P], "subnet_parse": [_P, _SIZE, _P, _P],
     "open": [_P, _P, _P, _P, _SIZE], "open_file": [_P, _P, _SIZE, _U32, _P, _P, _SIZE, _P], "close": [_P],
     "open_core": [_P, _P, _P, _P, _SIZE], "open_file_core": [_P, _P, _SIZE, _U32, _P, _P, _SIZE, _P],
-    "write_file": [_P, _U32, _P, _SIZE, _P],
+    "write_file": [_P, _U32, _P, _SIZE, _P], "why_refused": [_P, _P],
     "take_message": [_P, _BOOL, _P, _SIZE, _P, _P, _SIZE, _U32, _P, _P],
     "take_first": [_P, _BOOL, _P, _SIZE, _P, _U32, _P, _SIZE, _U32, _P, _P],
     "take_chosen": [_P, _BOOL, _P, _SIZE, _P, _U32, _U64, _U32, _P, _SIZE, _U32, _P, _P],
@@ -490,6 +491,12 @@ class AddrMan(_Object):
     def file(self, chain: int = MAIN) -> bytes:
         """The bytes of the peers.dat that keeps the tables."""
         return bytes(self._filled(c.c_uint8, 0, "write_file", _number("chain", chain)))
+
+    def why_refused(self) -> int:
+        """Why a node of Bitcoin Core does not start with this file: `NO_SUCCESS`, `ZERO_KEY`, or `STARTS` if it does."""
+        out = _U32()
+        _check(self._call("why_refused", c.byref(out)))
+        return out.value
 
     def take_message(self, is_v2: bool, payload: BytesLike, source: str, words: Sequence[int], now: int) -> tuple[int, int]:
         """Takes a message that `source` sent. Returns how many entries got a slot, and how many there are."""

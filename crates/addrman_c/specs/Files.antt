@@ -6,6 +6,9 @@ use Rattle.asmap_vm.specs.Asmap.{Asmap}
 use Rattle.placing.specs.declared.sum.SumRule.{SumRule}
 use Rattle.table_machine.specs.State.{State, empty_state}
 use Rattle.table_machine.specs.Snapshot.{snapshot_of}
+use Rattle.node_check.specs.Laws.{refusal_of}
+use Rattle.node_check.specs.declared.refusal.Refusal.{Refusal}
+use Rattle.node_check.specs.declared.refusal.Refusal.TheVariants.{NoSuccess, ZeroKey}
 use Rattle.peers_file.specs.Texts.{file_text}
 use Rattle.peers_file.specs.declared.chain.Chain.{Chain}
 use Rattle.peers_file.specs.declared.chain.Chain.TheVariants.{Main, Test, Testnet4, Signet, Regtest, Other}
@@ -61,3 +64,15 @@ WriteCall None st code old new count = (code ≡ ARGUMENT) × (new ≡ old)
 WriteCall (Some chain) st code old new count =
     ((code ≡ MEMORY) × (length (file_text chain (snapshot_of st)) ≤ length old) × (new ≡ old))
     ⊎ IsPut (file_text chain (snapshot_of st)) old code count new
+
+-- The number of the check by which a node of Bitcoin Core refuses a file, without its sign; 0 if it
+-- starts with it.
+abbrev pub refusal_number : Option Refusal → ℕ
+refusal_number None = 0
+refusal_number (Some NoSuccess) = 1
+refusal_number (Some ZeroKey) = 16
+
+-- why a node does not start with the file that keeps the tables
+abbrev pub WhyCall : State → ℕ → ℕ → Type 0
+WhyCall st code number =
+    (code ≡ MEMORY) ⊎ ((code ≡ OK) × (number ≡ refusal_number (refusal_of (snapshot_of st))))

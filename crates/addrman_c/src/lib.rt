@@ -56,7 +56,9 @@ pub use opener::{
     addrman_judge_feeler, addrman_opener_add, addrman_opener_judge, addrman_opener_peers,
     addrman_opener_remove,
 };
-pub use peers_dat::{addrman_open_file, addrman_open_file_core, addrman_write_file};
+pub use peers_dat::{
+    addrman_open_file, addrman_open_file_core, addrman_why_refused, addrman_write_file,
+};
 pub use picks::{
     addrman_resolve_collisions, addrman_select, addrman_select_collision, addrman_select_record,
 };

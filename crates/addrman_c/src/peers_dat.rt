@@ -1,5 +1,6 @@
 ghost use Rattle.std.specs.Prelude.{◌≡◌, ◌≢◌, IfOk, IfErr, IfSome};
-ghost use Rattle.addrman_c.specs.Files.{chain_of, WriteCall};
+ghost use Rattle.addrman_c.specs.Files.{chain_of, refusal_number, WhyCall, WriteCall};
+ghost use Rattle.node_check.specs.Laws.{LoadsAsSaved};
 ghost use Rattle.placing.specs.Inside.{map_of};
 ghost use Rattle.addrman_c.specs.Loading.{fault_of, IsLoaded, IsLoadFault, TellsLoad, LoadCall};
 ghost use Rattle.placing.specs.declared.sum.SumRule.TheVariants.{Bytes, Bits};
@@ -14,6 +15,7 @@ use c_values::code::{ARGUMENT, CLOSED, MEMORY, OK, REFUSED, SHORT_BUFFER};
 use c_values::{AddrmanFault, put_all};
 use host_io::Bytes;
 use node_calls::{file_length, snapshot};
+use node_check::{Refusal, why_refused};
 use peers_file::{Chain, FileFault, read_file, write_file};
 use placing::SumRule;
 use std::alloc::Global;
@@ -208,7 +210,8 @@ pub extern "C" fn addrman_open_file_core(
 
 /// Returns the bytes of the file that keeps the tables.
 pub(crate) fn file_of(alloc: Global, tables: &Tables<'_, Keyed>, chain: Chain) -> Option<Bytes>
-    ensures { IfSome result (λ bytes. bytes ≡ file_text chain (snapshot_of tables.now)) }
+    ensures file { IfSome result (λ bytes. bytes ≡ file_text chain (snapshot_of tables.now)) }
+    ensures loads { LoadsAsSaved tables.now }
 {
     let Ok(snap) = snapshot(tables) else {
         return None;
@@ -228,6 +231,7 @@ fn write_on(
     length: &mut usize,
 ) -> u32
     ensures call { WriteCall chain tables.now result out.old out.new length.new }
+    ensures loads { result ≡ OK → LoadsAsSaved tables.now }
     ensures length { result ≢ OK → result ≢ SHORT_BUFFER → length.new ≡ length.old }
 {
     let Some(chain) = chain else {
@@ -255,6 +259,8 @@ pub extern "C" fn addrman_write_file(
 ) -> u32
     ensures call { OnTables handle.old.loose.kept result handle.new.loose.kept (λ old new.
         WriteCall (chain_of chain) old result out.old out.new length.new × (new ≡ old)) }
+    ensures loads { result ≡ OK → IfSome handle.old.loose.kept (λ kept.
+        LoadsAsSaved kept.tables) }
     ensures same { result ≢ OK → out.new ≡ out.old }
     ensures length { result ≢ OK → result ≢ SHORT_BUFFER → length.new ≡ length.old }
 {
@@ -262,6 +268,51 @@ pub extern "C" fn addrman_write_file(
         return CLOSED;
     };
     let code = write_on(alloc, &kept.tables, chain_of(chain), out, length);
+    handle.put(kept);
+    code
+}
+
+/// Returns the number of the check by which a node refuses a file, 0 if it starts with it.
+fn refusal_number(refusal: Option<Refusal>) -> u32
+    ensures { result ≡ refusal_number refusal }
+{
+    match refusal {
+        None => 0,
+        Some(Refusal::NoSuccess) => 1,
+        Some(Refusal::ZeroKey) => 16,
+    }
+}
+
+/// Writes why a node does not start with the file that keeps the tables.
+fn why_on(tables: &Tables<'_, Keyed>, refusal: &mut u32) -> u32
+    ensures call { WhyCall tables.now result refusal.new }
+    ensures same { result ≢ OK → refusal.new ≡ refusal.old }
+{
+    match snapshot(tables) {
+        Ok(snap) => {
+            *refusal = refusal_number(why_refused(&snap));
+            OK
+        }
+        Err(_) => MEMORY,
+    }
+}
+
+/// Writes why a node of Bitcoin Core does not start with the file that keeps the tables: the number
+/// of its check without the sign, or 0 if it does.
+#[unsafe(no_mangle)]
+pub extern "C" fn addrman_why_refused(
+    alloc: Global,
+    handle: &mut Handle,
+    refusal: &mut u32,
+) -> u32
+    ensures call { OnTables handle.old.loose.kept result handle.new.loose.kept (λ old new.
+        WhyCall old result refusal.new × (new ≡ old)) }
+    ensures same { result ≢ OK → refusal.new ≡ refusal.old }
+{
+    let Some(kept) = handle.take(alloc) else {
+        return CLOSED;
+    };
+    let code = why_on(&kept.tables, refusal);
     handle.put(kept);
     code
 }

@@ -2,6 +2,7 @@ ghost use Rattle.std.specs.Prelude.{◌≡◌, ◌≢◌, ◌<◌, Option, None,
 ghost use Rattle.peers_file.specs.Texts.{file_text};
 ghost use Rattle.table_machine.specs.Snapshot.{snapshot_of};
 ghost use Rattle.addrman_c.specs.Files.{chain_of};
+ghost use Rattle.node_check.specs.Laws.{LoadsAsSaved};
 ghost use Rattle.addrman_c.specs.OnHandle.{OnTables};
 ghost use Rattle.addrman_c.specs.Saving.{BeginCall, DoneCall, IsBegun, NextCall, OnSave, request_number};
 
@@ -34,6 +35,7 @@ fn begun(alloc: Global, tables: &Tables<'_, Keyed>, chain: Chain, max: u32) -> O
     requires { 0 < max }
     ensures { IfSome result (λ kept.
         IsBegun max (file_text chain (snapshot_of tables.now)) kept.value.requests) }
+    ensures loads { LoadsAsSaved tables.now }
 {
     let bytes = file_of(alloc, tables, chain)?;
     boxed(alloc, bytes, max)
@@ -48,7 +50,8 @@ fn begin_on(
     save: &mut SaveHandle,
 ) -> u32
     requires { save.old.loose.kept ≡ None }
-    ensures { BeginCall chain max tables.now result save.new.loose.kept }
+    ensures call { BeginCall chain max tables.now result save.new.loose.kept }
+    ensures loads { result ≡ OK → LoadsAsSaved tables.now }
 {
     let Some(chain) = chain else {
         return ARGUMENT;
@@ -76,6 +79,8 @@ pub extern "C" fn addrman_save_begin(
     ensures tables { OnTables handle.old.loose.kept result handle.new.loose.kept (λ old new.
         BeginCall (chain_of chain) max old result save.new.loose.kept × (new ≡ old)) }
     ensures closed { handle.old.loose.kept ≡ None → save.new.loose.kept ≡ None }
+    ensures loads { result ≡ OK → IfSome handle.old.loose.kept (λ kept.
+        LoadsAsSaved kept.tables) }
 {
     let _old = save.take(alloc);
     let Some(kept) = handle.take(alloc) else {

@@ -4,6 +4,7 @@ use hints::{
     listing_hint, missing_hint, peers_hint, place_hint, stream_hint, table_hint, usage_hint,
 };
 use host_io::Name;
+use node_check::Refusal;
 use std::alloc::{AllocError, Global};
 use std::io;
 use std::io::ErrorKind;
@@ -73,6 +74,9 @@ fn put_lines(
     if *status == Status::Done {
         let hint = passed_over_hint(alloc, facts.learned)?;
         put_line(hint.as_str(), text)?;
+    }
+    if let Some(refusal) = facts.learned.refusal() {
+        put_line(refusal_text(refusal), text)?;
     }
     let hint = saves_hint(alloc, facts.saves)?;
     put_line(hint.as_str(), text)
@@ -187,6 +191,16 @@ fn fit_text(fit: SumFit) -> &'static str {
              its new records are placed anew",
         SumFit::Other =>
             "peers.dat was written under another asmap: its new records are placed anew",
+    }
+}
+
+/// Returns what is said of a peers.dat that was put in place, and over which a node does not start.
+fn refusal_text(refusal: Refusal) -> &'static str {
+    match refusal {
+        Refusal::NoSuccess =>
+            "peers.dat: Bitcoin Core will not start with it: a tried peer has no success (check -1)",
+        Refusal::ZeroKey =>
+            "peers.dat: Bitcoin Core will not start with it: its key is zero (check -16)",
     }
 }
 

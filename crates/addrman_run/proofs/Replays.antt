@@ -9,14 +9,16 @@ use Rattle.host_io.specs.Reading.{TakesAtMost}
 use Rattle.asmap_vm.specs.Asmap.{Asmap}
 use Rattle.log_lines.specs.Spelling.{HasCommandFault}
 use Rattle.log_run.specs.Run.{Run, Streams, last_reply}
-use Rattle.log_run.specs.Worlds.{RanIn, both}
+use Rattle.log_run.specs.Worlds.{RanIn, RanTo, both}
 use Rattle.log_run.specs.declared.run.LogEnd.{LogEnd}
 use Rattle.peers_file.specs.declared.chain.Chain.{Chain}
 use Rattle.arguments.specs.declared.file_kind.FileKind.{FileKind}
 use Rattle.session_saves.specs.Events.{Ended}
 use Rattle.session.specs.Folders.{SessionStep}
 use Rattle.session_saves.specs.Folders.{IsOpen}
-use Rattle.session.specs.History.{AtExit, Now, SinceEntry, HistoryStep, failed, fresh, onto}
+use Rattle.node_check.specs.declared.refusal.Refusal.{Refusal}
+use Rattle.session.specs.History.{AtExit, IsLastRefusal, Now, SinceEntry, HistoryStep, failed, fresh, onto}
+use Rattle.session.proofs.Noted.{chain_along, noted_run}
 use Rattle.session.specs.State as session
 use Rattle.session.proofs.OneHistory.{one_run}
 use Rattle.session.proofs.Promise.{IsKept, history, kept_line, kept_start}
@@ -24,7 +26,7 @@ use Rattle.slot_grid.specs.declared.sizes.TheConstants.{ALL_SLOTS}
 use Rattle.table_machine.specs.State.{State}
 use Rattle.addrman_run.proofs.FileIndexes.{file-below}
 use Rattle.addrman_run.proofs.Reopening.{reopens}
-use Rattle.addrman_run.specs.Opening.{Opened, Opens, file_in, places_of}
+use Rattle.addrman_run.specs.Opening.{IsUnopened, Opened, Opens, file_in, places_of}
 use Rattle.addrman_run.specs.Opening.Opens.{from_file, from_key}
 use Rattle.log_laws.specs.Kept.{IsOpening, KeepsCauses}
 use Rattle.log_laws.proofs.Laws.{keeps_causes}
@@ -34,10 +36,15 @@ use Rattle.log_laws.specs.Shares.{KeepsShares}
 use Rattle.table_laws.proofs.OpeningOf.{keeps_at_opening}
 use Rattle.log_laws.proofs.RunsOf.{keeps_losses}
 use Rattle.log_laws.proofs.SharesOf.{keeps_shares}
+use Rattle.log_laws.specs.SavedFiles.{SavesLoadable}
+use Rattle.log_laws.proofs.SavedOf.{saves_loadable}
+use Rattle.session_saves.specs.Refusals.{no_refusals}
 use Rattle.placing.specs.Places.{Places}
 use Rattle.table_machine.specs.Sound.{IsSound}
 use Rattle.manager.specs.Machine.{Machine}
-use Rattle.addrman_run.specs.Log.{streams_of}
+use Rattle.addrman_run.specs.Log.{LogOutcome, streams_of}
+use Rattle.addrman_run.specs.declared.status.Status.{Status}
+use Rattle.addrman_run.specs.declared.status.Status.TheVariants.{Done, LineTooLong, LogLine, LogTooLong, Memory, ReadFault, WriteFault}
 use Rattle.addrman_run.specs.Replay.{IsUntouched, Replayed, at_start}
 use Rattle.addrman_run.proofs.Seen.{ran_as}
 
@@ -113,6 +120,10 @@ module _ (key : Option (List ℕ)) (kind : FileKind) (past : Option Past) (map :
   shares_of lines =
       subst (λ p. KeepsShares (file_in opens) p (at_start kind.chain st) lines) (sym same_places) (keeps_shares (file_in opens) b.places (at_start kind.chain st) lines b.opening)
 
+  loads_of : (lines : List (List ℕ)) → SavesLoadable (file_in opens) st.places (at_start kind.chain st) lines
+  loads_of lines =
+      subst (λ p. SavesLoadable (file_in opens) p (at_start kind.chain st) lines) (sym same_places) (saves_loadable (file_in opens) b.places (at_start kind.chain st) lines refl b.opening)
+
   losses_of : (lines : List (List ℕ)) → KeepsLosses (at_start kind.chain st) lines
   losses_of lines = keeps_losses (file_in opens) b.places (at_start kind.chain st) b.opening lines
 
@@ -156,6 +167,7 @@ module _ {F : Type 0} (past : F → Option Past) (faults : F → ℕ) where
         causes = keeps key kind old.past map tables opens o (lines_of r.ran.log);
         shares = shares_of key kind old.past map tables opens o (lines_of r.ran.log);
         losses = losses_of key kind old.past map tables opens o (lines_of r.ran.log);
+        loads = loads_of key kind old.past map tables opens o (lines_of r.ran.log);
         opening = opening_of key kind old.past map tables tables.places opens;
         reopens = λ before h after.
             let k = keeps key kind old.past map tables opens o (lines_of r.ran.log) in
@@ -172,6 +184,35 @@ module _ {F : Type 0} (past : F → Option Past) (faults : F → ℕ) where
   replayed key kind tables start old new w v how opened begins few same_past earlier ends_past ends_faults r =
       replayed_from key kind tables old new w v how opened few same_past earlier ends_past ends_faults
       (subst (λ s. RanIn (SessionStep past faults) HasCommandFault (s, w) (streams_of old) (streams_of new) v how) begins r)
+
+  -- and why a node does not start over the file of the last save
+  told_from : (key : Option (List ℕ)) (kind : FileKind) (tables : State) (old new : Outside) (w v : F) (how : LogEnd)
+      → (opened : Opened key kind old.past tables) → (few : tables.next_number ≤ ALL_SLOTS) → (same_past : past w ≡ old.past) → (earlier : old.folder_faults ≤ faults w)
+      → (ends_past : new.past ≡ past v) → (ends_faults : new.folder_faults ≡ faults v)
+      → (r : RanIn (SessionStep past faults) HasCommandFault (at_start kind.chain tables, w) (streams_of old) (streams_of new) v how)
+      → (run : Replayed key kind old new how) × IsLastRefusal kind.chain run.ran.now.ended r.ran.now.0.refusals.of_last
+  unfolding replayed_from
+  told_from key kind tables old new w v how opened few same_past earlier ends_past ends_faults r =
+      let start = at_start kind.chain tables in
+      let h = follow past faults r.ran.carried r.ran.replies start r.ran.now.0 w r.ran.now.1 [] (past w) (faults w) r.ran.runs
+      (kept_start start (past w) (faults w) refl) in
+      let last = history r.ran.now.0 h.ended in
+      let noted = noted_run r.ran.carried r.ran.replies (fresh start) last h.runs record { last = refl; open_save = tt } in (
+        replayed_from key kind tables old new w v how opened few same_past earlier ends_past ends_faults r,
+        subst (λ chain. IsLastRefusal chain h.ended r.ran.now.0.refusals.of_last) (chain_along r.ran.carried r.ran.replies (fresh start) last h.runs) noted.last,
+      )
+
+  pub told : (key : Option (List ℕ)) (kind : FileKind) (tables : State) (start : session.SessionState) (old new : Outside) (w v : F) (how : LogEnd)
+      → Opened key kind old.past tables → start ≡ at_start kind.chain tables
+      → tables.next_number ≤ ALL_SLOTS → past w ≡ old.past → old.folder_faults ≤ faults w
+      → new.past ≡ past v → new.folder_faults ≡ faults v
+      → (state : session.SessionState) (why : Option Refusal) → why ≡ state.refusals.of_last
+      → RanTo (SessionStep past faults) HasCommandFault (start, w) (streams_of old) (streams_of new) state v how
+      → (run : Replayed key kind old new how) × IsLastRefusal kind.chain run.ran.now.ended why
+  told key kind tables start old new w v how opened begins few same_past earlier ends_past ends_faults state why is r =
+      let s = subst (λ x. RanTo (SessionStep past faults) HasCommandFault (x, w) (streams_of old) (streams_of new) state v how) begins r in
+      let found = told_from key kind tables old new w v how opened few same_past earlier ends_past ends_faults s.ran_in in
+      (found.0, subst (IsLastRefusal kind.chain found.0.ran.now.ended) (ap (λ (x : session.SessionState). x.refusals.of_last) (sym s.same_state) ∙ sym is) found.1)
 
   rises_by : (lines : List (List ℕ)) (text : List ℕ) (s t : session.SessionState) (w v : F) → Run (both (SessionStep past faults)) (s, w) lines text (t, v) → faults w ≤ faults v
   rises_by [] text s t w v run = omega (arith, ap (λ p. faults p.1) run.1)
@@ -190,11 +231,23 @@ module _ {F : Type 0} (past : F → Option Past) (faults : F → ℕ) where
 pub untouched : (old new : Outside) → new.written ≡ old.written → new.left ≡ old.left → new.log_faults ≡ old.log_faults → new.past ≡ old.past → IsUntouched old new
 untouched old new written left log past = record { written = written; log = (left, log); past = past }
 
+-- a replay that opened nothing
+pub not_run : (ran : LogEnd → Type 0) (P : Status → Type 0) (key : Option (List ℕ)) (chain : Chain) (start : Option Past) (answer : Status)
+    → IsUnopened key chain start answer → P answer → LogOutcome ran P answer
+not_run ran P key chain start Done no is = absurd no
+not_run ran P key chain start (LogLine line fault) no is = absurd no
+not_run ran P key chain start (LineTooLong line) no is = absurd no
+not_run ran P key chain start LogTooLong no is = absurd no
+not_run ran P key chain start ReadFault no is = absurd no
+not_run ran P key chain start WriteFault no is = absurd no
+not_run ran P key chain start Memory why is = inl is
+not_run ran P key chain start other why is = is
+
 pub takes_none : (left : Option (List ℕ)) (most : ℕ) → TakesAtMost left left most
 takes_none None most = tt
 takes_none (Some bytes) most = (0, omega arith, refl)
 
 -- the session at the start
-pub starts : (chain : Chain) (tables : State) (made : session.SessionState) (machine : Machine) → made ≡ session.state chain machine None
+pub starts : (chain : Chain) (tables : State) (made : session.SessionState) (machine : Machine) → made ≡ session.state chain machine None no_refusals
     → machine ≡ record { tables = tables; clock = 0 } → made ≡ at_start chain tables
-starts chain tables made machine is_state is_machine = is_state ∙ ap (λ m. session.state chain m None) is_machine
+starts chain tables made machine is_state is_machine = is_state ∙ ap (λ m. session.state chain m None no_refusals) is_machine

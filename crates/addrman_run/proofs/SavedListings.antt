@@ -1,6 +1,6 @@
 -- How `from-raw` ends, and what it leaves at each moment.
-use Rattle.std.proofs.Common.{◌≡◌, ◌++◌, ℕ, List, codes, decimal, inl, inr, length, refl, subst, sym}
-use Rattle.std.specs.Prelude.{Option}
+use Rattle.std.proofs.Common.{◌≡◌, ◌++◌, ℕ, List, codes, decimal, inl, inr, length, refl, subst, sym, ◌∙◌}
+use Rattle.std.specs.Prelude.{Option, None}
 use Rattle.arguments.specs.declared.file_kind.FileKind.{FileKind}
 use Rattle.host_io.specs.Outside.{Outside}
 use Rattle.host_io.specs.Past.{Past, Always}
@@ -17,12 +17,15 @@ use Rattle.raw_read.specs.declared.raw.RawFault.TheVariants as raw
 use Rattle.raw_read.specs.declared.read.TheConstants.{MAX_TEXT}
 use Rattle.save_store.specs.Saves.{PublishesOrNot}
 use Rattle.addrman_run.specs.Asmaps.{IsNoMap}
-use Rattle.addrman_run.specs.FromRaw.{FromRawOutcome, IsNewPeers, IsOldOrNewPeers, RefusesListing, SavesNothing, from_raw_text}
+use Rattle.node_check.specs.declared.refusal.Refusal.{Refusal}
+use Rattle.raw_file.specs.Loading.{key_refusal}
+use Rattle.raw_file.proofs.LoadingOf.{loads_listing}
+use Rattle.addrman_run.specs.FromRaw.{FromRawOutcome, IsNewPeers, IsOldOrNewPeers, RefusesListing, SavesNothing, from_raw_text, said_after}
 use Rattle.addrman_run.specs.Inside.{IsListedFile, IsNoInput, IsNotListed, IsSumIn, SaveEnds}
 use Rattle.addrman_run.specs.Opening.{HasMap}
 use Rattle.addrman_run.specs.Replay.{IsUntouched}
 use Rattle.addrman_run.specs.declared.status.Status.{Status}
-use Rattle.addrman_run.specs.declared.status.Status.TheVariants.{AsmapRefused, DiskFault, Memory, RawRefused, ReadFault}
+use Rattle.addrman_run.specs.declared.status.Status.TheVariants.{AsmapRefused, DiskFault, Done, Memory, RawRefused, ReadFault, WriteFault}
 
 -- the line with these numbers is that of the snapshot and the file
 pub peers_line : (snap : Snapshot) (file : List ℕ) (new tried bytes : ℕ) → new ≡ length snap.new_recs → tried ≡ length snap.tried_recs → bytes ≡ length file →
@@ -31,10 +34,10 @@ unfolding from_raw_text
 peers_line snap file new tried bytes n t b = λ i. codes "new " ++ decimal (n i) ++ codes " tried " ++ decimal (t i) ++ codes " peers.dat " ++ decimal (b i) ++ codes " bytes\n"
 
 -- what is saved is the file of the listing
-pub new_peers : (key : List ℕ) (kind : FileKind) (past : Option Past) (before after : Option (List ℕ)) (sum text file line : List ℕ) →
-    IsSumIn kind.rule past sum → IsInput MAX_TEXT before after text → IsListedFile key sum kind.chain text file line →
-    (snap : Snapshot) × IsNewPeers key kind past before after snap file × (line ≡ from_raw_text snap file)
-new_peers key kind past before after sum text file line of_map input is = (
+pub new_peers : (key : List ℕ) (kind : FileKind) (past : Option Past) (before after : Option (List ℕ)) (sum text file line : List ℕ) (why : Option Refusal) →
+    IsSumIn kind.rule past sum → IsInput MAX_TEXT before after text → IsListedFile key sum kind.chain text file line why →
+    (snap : Snapshot) × IsNewPeers key kind past before after snap file × (line ≡ from_raw_text snap file) × (why ≡ key_refusal key)
+new_peers key kind past before after sum text file line why of_map input is = (
   is.0,
   record {
     text = text;
@@ -44,9 +47,27 @@ new_peers key kind past before after sum text file line of_map input is = (
     listing = subst (λ s. IsListing key s text is.0) of_map.2 is.1;
     whole = is.2;
     reads = is.3;
+    loads = loads_listing key sum text is.0 is.1 is.5;
   },
   is.4,
+  is.6 ∙ (loads_listing key sum text is.0 is.1 is.5).refusal,
 )
+
+-- what has no file has nothing that is said of it
+pub unmapped_says : (past : Option Past) (why : Option Refusal) (status : Status) → IsNoMap past status → said_after status why ≡ None
+unmapped_says past why Done no = absurd no
+unmapped_says past why WriteFault no = absurd no
+unmapped_says past why other no = refl
+
+pub unread_says : (before after : Option (List ℕ)) (why : Option Refusal) (status : Status) → IsNoInput before after status → said_after status why ≡ None
+unread_says before after why Done no = absurd no
+unread_says before after why WriteFault no = absurd no
+unread_says before after why other no = refl
+
+pub unlisted_says : (text : List ℕ) (why : Option Refusal) (status : Status) → IsNotListed text status → said_after status why ≡ None
+unlisted_says text why Done no = absurd no
+unlisted_says text why WriteFault no = absurd no
+unlisted_says text why other no = refl
 
 -- EVERY MOMENT
 

@@ -23,6 +23,7 @@ use Rattle.log_run.specs.Run.{Run}
 use Rattle.session_saves.specs.Events.{Ended}
 use Rattle.session_saves.specs.Folders.{IsOpen}
 use Rattle.session.specs.History.{HistoryStep, fresh, onto}
+use Rattle.session_saves.specs.Refusals.{no_refusals}
 use Rattle.session.specs.State as session
 use Rattle.session.proofs.Promise.{history}
 use Rattle.addrman_run.proofs.Generating.{at_end}
@@ -124,9 +125,9 @@ is_trial start lines bytes sum line made first last tables c begins is_made (tex
 }
 
 -- the session at the start
-pub begins : (first : session.SessionState) (machine : Machine) (tables : State) (places : Places) → first ≡ session.state Main machine None → machine ≡ record { tables = tables; clock = 0 }
+pub begins : (first : session.SessionState) (machine : Machine) (tables : State) (places : Places) → first ≡ session.state Main machine None no_refusals → machine ≡ record { tables = tables; clock = 0 }
     → tables ≡ empty_state places → places ≡ places_of Bytes (replicate 32 0) None → first ≡ trial_start
-begins first machine tables places f m t p = f ∙ ap (λ x. session.state Main x None) m ∙ ap (at_start Main) (t ∙ ap empty_state p)
+begins first machine tables places f m t p = f ∙ ap (λ x. session.state Main x None no_refusals) m ∙ ap (at_start Main) (t ∙ ap empty_state p)
 
 pub ok_weaker : {A E : Type 0} (r : Result A E) (P Q : A → Type 0) → ((x : A) → P x → Q x) → IfOk r P → IfOk r Q
 ok_weaker (Ok x) P Q weaker is = weaker x is

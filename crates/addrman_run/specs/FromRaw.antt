@@ -1,5 +1,5 @@
 -- What `from-raw` writes and saves for a listing of the tables, and how it ends.
-use Rattle.std.specs.Prelude.{◌≡◌, ◌≢◌, ◌⊎◌, ℕ, ◌+◌, List, ◌++◌, length, Option, Some, codes, decimal}
+use Rattle.std.specs.Prelude.{◌≡◌, ◌≢◌, ◌⊎◌, ℕ, ◌+◌, List, ◌++◌, length, Option, Some, None, codes, decimal}
 use Rattle.arguments.specs.declared.file_kind.FileKind.{FileKind}
 use Rattle.asmap_vm.specs.Asmap.{Asmap}
 use Rattle.host_io.specs.Disk.{Disk, MayHave}
@@ -10,12 +10,14 @@ use Rattle.host_io.specs.Reading.{TakesAtMost}
 use Rattle.host_io.specs.Writing.{Appended, AppendedPart}
 use Rattle.host_io.specs.declared.name.Name.{Name}
 use Rattle.host_io.specs.declared.name.Name.TheVariants as name
+use Rattle.node_check.specs.declared.refusal.Refusal.{Refusal}
 use Rattle.peer_rec.specs.Snapshot.{Snapshot}
 use Rattle.peers_file.specs.Layout.{IsFile}
 use Rattle.peers_file.specs.Texts.{file_text}
 use Rattle.placing.specs.Places.{sum_by}
 use Rattle.raw_file.specs.Faults.{HasListingFault, IsListing}
 use Rattle.raw_file.specs.Input.{IsInput, IsLong}
+use Rattle.raw_file.specs.Loading.{LoadsListing}
 use Rattle.raw_file.specs.declared.fault.ListingFault.{ListingFault}
 use Rattle.raw_file.specs.declared.fault.ListingFault.TheVariants as fault
 use Rattle.raw_read.specs.declared.raw.RawFault.TheVariants as raw
@@ -39,7 +41,7 @@ from_raw_text snap file =
 
 -- The input was the text of a listing, and all of it was read. The snapshot is that of the listing
 -- under the key, with the checksum of the folder's asmap, and this is the file of it, which reads
--- back as that.
+-- back as that. A node of Bitcoin Core loads it if the key is not zero.
 pub record IsNewPeers (key : List ℕ) (kind : FileKind) (past : Option Past)
     (before after : Option (List ℕ)) (snap : Snapshot) (file : List ℕ) : Type 0 where
   pub text : List ℕ
@@ -49,6 +51,7 @@ pub record IsNewPeers (key : List ℕ) (kind : FileKind) (past : Option Past)
   pub listing : IsListing key (sum_by kind.rule map) text snap
   pub whole : file ≡ file_text kind.chain snap
   pub reads : IsFile kind.chain file snap
+  pub loads : LoadsListing key snap
 
 -- why the input is refused: it is too long, or all of it was read and has this first fault
 abbrev pub RefusesListing : Option (List ℕ) → Option (List ℕ) → ListingFault → Type 0
@@ -56,6 +59,13 @@ RefusesListing before after (fault.Text raw.TooLarge) = IsLong MAX_TEXT before a
 RefusesListing before after why =
     (text : List ℕ) × IsInput MAX_TEXT before after text × (why ≢ fault.Memory)
     × HasListingFault text why
+
+-- why a node does not start over the file that was saved, by the status: nothing unless it is in
+-- its place
+abbrev pub said_after : Status → Option Refusal → Option Refusal
+said_after Done why = why
+said_after WriteFault why = why
+said_after other why = None
 
 -- HOW IT ENDS
 

@@ -45,6 +45,8 @@ use Rattle.session.specs.History.{HistoryStep, fresh}
 use Rattle.session.specs.State as session
 use Rattle.session.specs.State.{LineStep}
 use Rattle.sha2.specs.Sha256.{sha256}
+use Rattle.node_check.specs.Laws.{IsReadable, refusal_of}
+use Rattle.node_check.specs.declared.refusal.Refusal.{Refusal}
 use Rattle.peer_rec.specs.Snapshot.{Snapshot}
 use Rattle.peers_file.specs.Layout.{IsFile, HasFileFault}
 use Rattle.peers_file.specs.Texts.{file_text}
@@ -286,11 +288,13 @@ IsNoInput before after ReadFault = ⊤
 IsNoInput before after Memory = ⊤
 IsNoInput before after other = ⊥
 
--- the file of a listing, and the line about it
-abbrev pub IsListedFile : List ℕ → List ℕ → Chain → List ℕ → List ℕ → List ℕ → Type 0
-IsListedFile key sum chain text file line =
+-- the file of a listing, the line about it, and why a node does not start over it
+abbrev pub IsListedFile : List ℕ → List ℕ → Chain → List ℕ → List ℕ → List ℕ → Option Refusal
+    → Type 0
+IsListedFile key sum chain text file line why =
     (snap : Snapshot) × IsListing key sum text snap × (file ≡ file_text chain snap)
-    × IsFile chain file snap × (line ≡ from_raw_text snap file)
+    × IsFile chain file snap × (line ≡ from_raw_text snap file) × IsReadable snap
+    × (why ≡ refusal_of snap)
 
 -- why the text of a listing gives no file
 abbrev pub IsNotListed : List ℕ → Status → Type 0

@@ -39,3 +39,4 @@ pub mod Complete
 pub mod FaultTexts
 pub mod Report
 pub mod Inside
+pub mod Warnings

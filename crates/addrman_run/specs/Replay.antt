@@ -12,6 +12,7 @@ use Rattle.asmap_vm.specs.Asmap.{Asmap}
 use Rattle.log_laws.specs.Kept.{IsAfter, KeepsCauses}
 use Rattle.log_laws.specs.LostLines.{KeepsLosses}
 use Rattle.table_laws.specs.Openings.{KeepsOpened}
+use Rattle.log_laws.specs.SavedFiles.{SavesLoadable}
 use Rattle.log_laws.specs.Shares.{KeepsShares}
 use Rattle.log_lines.specs.Spelling.{HasCommandFault}
 use Rattle.log_run.specs.Run.{Ran, Run}
@@ -21,6 +22,7 @@ use Rattle.peers_file.specs.declared.chain.Chain.{Chain}
 use Rattle.arguments.specs.declared.file_kind.FileKind.{FileKind}
 use Rattle.session_saves.specs.Files.{file_of}
 use Rattle.session_saves.specs.Folders.{IsOpen}
+use Rattle.session_saves.specs.Refusals.{no_refusals}
 use Rattle.session.specs.History.{AtExit, History, Now, SinceEntry, HistoryStep, failed, fresh}
 use Rattle.session.specs.State as session
 use Rattle.table_machine.specs.Restart.{restart}
@@ -29,9 +31,10 @@ use Rattle.addrman_run.specs.Log.{LogOutcome, SameLog, streams_of}
 use Rattle.addrman_run.specs.Opening.{IsUnopened, Opened, Opens, file_in}
 use Rattle.addrman_run.specs.declared.status.Status.{Status}
 
--- the session that a replay begins with: the tables, at the time 0, and no open save
+-- the session that a replay begins with: the tables, at the time 0, and no open save, nor any other
 abbrev pub at_start : Chain → State → session.SessionState
-at_start chain tables = session.state chain (record { tables = tables; clock = 0 }) None
+at_start chain tables =
+    session.state chain (record { tables = tables; clock = 0 }) None no_refusals
 
 -- If peers.dat has the file of these tables, it opens, and only as they are after a restart.
 abbrev pub ReopensAs : FileKind → Option Asmap → State → Type 0
@@ -57,7 +60,9 @@ HasOneHistory start =
 -- and a tried record leaves only for another one of its slot. Few of a round's words select records
 -- that sources of some groups put there. Over the next lines each record stays, or is lost in one
 -- of them with a cause; so it is with the records of the file that was opened. The file of the
--- tables after any line opens again, with the same asmap, as these tables after a restart.
+-- tables after any line opens again, with the same asmap, as these tables after a restart. A node of
+-- Bitcoin Core loads each file that a save wrote, if the key is not zero, each tried record of the
+-- file that was opened has a success, and no line gave one at the clock 0.
 pub record Replayed (key : Option (List ℕ)) (kind : FileKind)
     (old new : Outside) (how : LogEnd) : Type 0 where
   pub tables : State
@@ -75,6 +80,8 @@ pub record Replayed (key : Option (List ℕ)) (kind : FileKind)
       (at_start kind.chain tables) (lines_of ran.log)
   pub losses : KeepsLosses (at_start kind.chain tables) (lines_of ran.log)
   pub opening : KeepsOpened (file_in opened.opens) tables.places
+  pub loads : SavesLoadable (file_in opened.opens) tables.places
+      (at_start kind.chain tables) (lines_of ran.log)
   pub reopens : (before : List (List ℕ)) (h : History)
       → IsAfter (at_start kind.chain tables) (lines_of ran.log) before h
       → ReopensAs kind opened.map h.now.machine.tables

@@ -1,12 +1,13 @@
-ghost use Rattle.std.specs.Prelude.{◌≡◌, ◌+◌, ◌++◌, Err, IfOk, IfErr, codes, decimal};
+ghost use Rattle.std.specs.Prelude.{◌≡◌, ◌+◌, ◌++◌, Err, IfOk, IfErr, None, codes, decimal};
 ghost use Rattle.host_io.specs.Outside.{outside};
 ghost use Rattle.host_io.specs.Past.{Always};
 ghost use Rattle.host_io.specs.Reading.{TakesAtMost};
 ghost use Rattle.log_run.specs.Counts.{IsCounted};
 ghost use Rattle.raw_file.specs.Input.{IsInput};
+ghost use Rattle.raw_file.specs.Loading.{key_refusal};
 ghost use Rattle.raw_read.specs.declared.read.TheConstants.{MAX_TEXT};
 ghost use Rattle.addrman_run.specs.Asmaps.{IsNoMap};
-ghost use Rattle.addrman_run.specs.FromRaw.{FromRawOutcome, IsOldOrNewPeers, from_raw_text};
+ghost use Rattle.addrman_run.specs.FromRaw.{FromRawOutcome, IsOldOrNewPeers, from_raw_text, said_after};
 ghost use Rattle.addrman_run.specs.Inside.{IsListedFile, IsNoInput, IsNotListed, IsSumIn};
 
 use crate::opening::open_map;
@@ -15,6 +16,7 @@ use crate::{Learned, Memory, Status};
 use arguments::FileKind;
 use host_io::{Bytes, Folder, Name, Sink, Source};
 use net_addr::{put_number, put_text};
+use node_check::{Refusal, why_refused};
 use peer_rec::Snapshot;
 use peers_file::write_file;
 use placing::{SumRule, sum_by};
@@ -22,11 +24,12 @@ use raw_file::{InputFault, ListingFault, read_input, read_listing};
 use raw_read::{MAX_TEXT, RawFault};
 use std::alloc::Global;
 
-/// The file of a listing, and the line about it.
+/// The file of a listing, the line about it, and why a node does not start over it.
 #[derive(Drop)]
 struct NewPeers {
     file: Bytes,
     line: Vec<u8>,
+    refusal: Option<Refusal>,
 }
 
 /// Returns the checksum of the folder's asmap by a rule, 32 zero bytes if there is no such file.
@@ -108,7 +111,7 @@ fn new_peers(
     learned: &mut Learned,
 ) -> Result<NewPeers, Status>
     ensures found { IfOk result (λ made.
-        IsListedFile key sum kind.chain text made.file made.line.items) }
+        IsListedFile key sum kind.chain text made.file made.line.items made.refusal) }
     ensures cause { IfErr result (IsNotListed text) }
 {
     let snap = match read_listing(alloc, text.items(), key, sum) {
@@ -120,17 +123,34 @@ fn new_peers(
         }
     };
     drop(text);
+    let refusal = why_refused(&snap);
     let Ok(file) = write_file(alloc, &snap, kind.chain) else {
         return Err(Status::Memory);
     };
     match peers_line(alloc, &snap, file.items()) {
-        Ok(line) => Ok(NewPeers { file, line }),
+        Ok(line) => Ok(NewPeers {
+            file,
+            line,
+            refusal,
+        }),
         Err(_) => Err(Status::Memory),
     }
 }
 
+/// Returns what is said of a file that was saved, by how that ended: nothing unless it is in its
+/// place.
+fn said_after(status: Status, refusal: Option<Refusal>) -> Option<Refusal>
+    ensures { result ≡ said_after status refusal }
+{
+    match status {
+        Status::Done | Status::WriteFault => refusal,
+        _ => None,
+    }
+}
+
 /// Makes peers.dat of the log, a listing of the tables, under a key and with the checksum of the
-/// folder's asmap, and says how large the tables and the file are.
+/// folder's asmap, and says how large the tables and the file are. `refusal` gets why a node of
+/// Bitcoin Core does not start over the file.
 pub(crate) fn from_raw<L: Source, F: Folder, K: Sink>(
     alloc: Global,
     key: [u8; 32],
@@ -139,12 +159,15 @@ pub(crate) fn from_raw<L: Source, F: Folder, K: Sink>(
     folder: &mut F,
     out: &mut K,
     learned: &mut Learned,
+    refusal: &mut Option<Refusal>,
 ) -> Status
+    requires none { refusal.old ≡ None }
     ensures outcome { FromRawOutcome key kind
         (outside L.Source F.Folder K.Sink log.old folder.old out.old)
         (outside L.Source F.Folder K.Sink log.new folder.new out.new) result }
     ensures any_moment { Always (F.past folder.old) (F.past folder.new)
         (IsOldOrNewPeers key kind (F.past folder.old) (L.left log.old) (L.left log.new)) }
+    ensures told { refusal.new ≡ said_after result (key_refusal key) }
     ensures taken { TakesAtMost (L.left log.old) (L.left log.new) (MAX_TEXT + 1) }
     ensures read { IsCounted Status.ReadFault (L.faults log.old) (L.faults log.new) result }
     ensures write { IsCounted Status.WriteFault (K.faults out.old) (K.faults out.new) result }
@@ -163,5 +186,7 @@ pub(crate) fn from_raw<L: Source, F: Folder, K: Sink>(
         Err(status) => return status,
     };
     let (file, line) = (made.file.items(), made.line.as_slice());
-    save_then_write(Name::PeersTemp, Name::Peers, file, line, folder, out)
+    let status = save_then_write(Name::PeersTemp, Name::Peers, file, line, folder, out);
+    *refusal = said_after(status, made.refusal);
+    status
 }

@@ -1,5 +1,6 @@
 use ban_list::BanRule;
 use host_io::Bytes;
+use node_check::Refusal;
 use std::alloc::Global;
 
 /// How many bytes of peers.dat end with its key.
@@ -22,8 +23,8 @@ pub enum SumFit {
     Other,
 }
 
-/// What a run learned besides its status, for messages to people. No contract speaks of it: what
-/// there was no memory for is missing, and so is what the run did not come to.
+/// What a run learned besides its status, for messages to people. What there was no memory for is
+/// missing, and so is what the run did not come to; no contract speaks of it, but for the refusal.
 #[derive(Drop)]
 pub struct Learned {
     /// The line of the log that is not carried out.
@@ -36,9 +37,12 @@ pub struct Learned {
     pub(crate) is_key_unused: bool,
     pub(crate) sum_fit: SumFit,
     pub(crate) left_out: usize,
+    pub(crate) refusal: Option<Refusal>,
 }
 
 impl Learned {
+    ghost use Rattle.std.specs.Prelude.{◌≡◌};
+
     /// Makes what is known before a run: nothing.
     pub fn make(alloc: Global) -> Learned {
         Learned {
@@ -50,6 +54,7 @@ impl Learned {
             is_key_unused: false,
             sum_fit: SumFit::Same,
             left_out: 0,
+            refusal: None,
         }
     }
 
@@ -100,6 +105,14 @@ impl Learned {
     /// address is not valid or their slot has another record.
     pub fn left_out(&self) -> usize {
         self.left_out
+    }
+
+    /// Returns why a node of Bitcoin Core does not start over the last peers.dat that was put in
+    /// place, if one was and it does not.
+    pub fn refusal(&self) -> Option<Refusal>
+        ensures { result ≡ self.now.refusal }
+    {
+        self.refusal
     }
 
     /// Keeps the first bytes of a file.

@@ -1,9 +1,10 @@
 ghost use Rattle.host_io.specs.Outside.{outside};
 ghost use Rattle.host_io.specs.Reading.{TakesAtMost};
-ghost use Rattle.std.specs.Prelude.{◌+◌};
+ghost use Rattle.std.specs.Prelude.{◌≡◌, ◌+◌, None};
 ghost use Rattle.log_run.specs.declared.sizes.TheConstants.{MAX_LOG};
 ghost use Rattle.log_run.specs.Counts.{IsCounted};
 ghost use Rattle.addrman_run.specs.Replay.{ReplayOutcome};
+ghost use Rattle.addrman_run.specs.Warnings.{ReplayTells};
 
 use crate::opening::open_folder;
 use crate::status::status_of;
@@ -12,12 +13,14 @@ use arguments::FileKind;
 use host_io::{Folder, Sink, Source};
 use log_run::run_log;
 use manager::Manager;
+use node_check::Refusal;
 use session::Session;
 use std::alloc::Global;
 use std::hash::BuildHasher;
 
 /// Carries out the lines of the log, from the tables of the folder's peers.dat, or if it is absent,
-/// from empty ones with the key. Either way they have the folder's asmap. Saves replace peers.dat.
+/// from empty ones with the key. Either way they have the folder's asmap. Saves replace peers.dat. `refusal` gets why a node of Bitcoin Core
+/// does not start over the file of the last one that was done.
 pub(crate) fn replay<L: Source, F: Folder, K: Sink, H: BuildHasher + Drop>(
     alloc: Global,
     hasher: H,
@@ -27,10 +30,15 @@ pub(crate) fn replay<L: Source, F: Folder, K: Sink, H: BuildHasher + Drop>(
     folder: &mut F,
     out: &mut K,
     learned: &mut Learned,
+    refusal: &mut Option<Refusal>,
 ) -> Status
+    requires none { refusal.old ≡ None }
     ensures outcome { ReplayOutcome key kind
         (outside L.Source F.Folder K.Sink log.old folder.old out.old)
         (outside L.Source F.Folder K.Sink log.new folder.new out.new) result }
+    ensures told { ReplayTells key kind
+        (outside L.Source F.Folder K.Sink log.old folder.old out.old)
+        (outside L.Source F.Folder K.Sink log.new folder.new out.new) refusal.new result }
     ensures taken { TakesAtMost (L.left log.old) (L.left log.new) (MAX_LOG + 1) }
     ensures read { IsCounted Status.ReadFault (L.faults log.old) (L.faults log.new) result }
     ensures write { IsCounted Status.WriteFault (K.faults out.old) (K.faults out.new) result }
@@ -42,5 +50,7 @@ pub(crate) fn replay<L: Source, F: Folder, K: Sink, H: BuildHasher + Drop>(
         Err(status) => return status,
     };
     let mut session = Session::make(Manager::open(tables), kind.chain);
-    status_of(run_log(alloc, log, &mut session, folder, out, &mut learned.line))
+    let end = run_log(alloc, log, &mut session, folder, out, &mut learned.line);
+    *refusal = session.refusal();
+    status_of(end)
 }

@@ -1,9 +1,10 @@
-ghost use Rattle.std.specs.Prelude.{◌≡◌, ◌≢◌, map, string_bytes};
+ghost use Rattle.std.specs.Prelude.{◌≡◌, ◌≢◌, None, map, string_bytes};
 ghost use Rattle.host_io.specs.Outside.{outside};
 ghost use Rattle.arguments.specs.Table.{Asks, IsProperRequest};
 ghost use Rattle.addrman_run.specs.Untouched.{AsksNoFolder, LeavesRest, ReadsNoLog, TellsUsage};
 ghost use Rattle.addrman_run.specs.Complete.{IsComplete};
 ghost use Rattle.addrman_run.specs.Outcome.{Ends, HasCause};
+ghost use Rattle.addrman_run.specs.Warnings.{Warns};
 ghost use Rattle.arguments.specs.declared.request.Request.{Request};
 
 use crate::address::write_address;
@@ -33,6 +34,7 @@ use crate::view_text::write_view;
 use crate::{Learned, Status};
 use arguments::{Request, read_request};
 use host_io::{Folder, Sink, Source};
+use node_check::Refusal;
 use std::alloc::Global;
 use std::hash::BuildHasher;
 
@@ -107,11 +109,17 @@ pub fn run_learning<L: Source, F: Folder, K: Sink, H: BuildHasher + Drop>(
     ensures complete { (request : Request) → Asks (map string_bytes words.now) request →
         IsComplete request (outside L.Source F.Folder K.Sink log.old folder.old out.old)
         (outside L.Source F.Folder K.Sink log.new folder.new out.new) result }
+    ensures warning { (request : Request) → Asks (map string_bytes words.now) request →
+        Warns request (outside L.Source F.Folder K.Sink log.old folder.old out.old)
+        (outside L.Source F.Folder K.Sink log.new folder.new out.new) learned.new.refusal result }
 {
     let Some(request) = read_request(alloc, words) else {
         return Status::Usage;
     };
-    carry_out(alloc, hasher, request, log, folder, out, learned)
+    let mut refusal = None;
+    let status = carry_out(alloc, hasher, request, log, folder, out, learned, &mut refusal);
+    learned.refusal = refusal;
+    status
 }
 
 /// Carries out what the arguments ask for.
@@ -123,19 +131,23 @@ fn carry_out<L: Source, F: Folder, K: Sink, H: BuildHasher + Drop>(
     folder: &mut F,
     out: &mut K,
     learned: &mut Learned,
+    refusal: &mut Option<Refusal>,
 ) -> Status
-    requires { IsProperRequest request }
+    requires proper { IsProperRequest request }
+    requires none { refusal.old ≡ None }
     ensures asked { result ≢ Status.Usage }
     ensures no_log { ReadsNoLog request → log.new ≡ log.old }
     ensures no_folder { AsksNoFolder request → folder.new ≡ folder.old }
     ensures cause { HasCause (outside L.Source F.Folder K.Sink log.old folder.old out.old)
         (outside L.Source F.Folder K.Sink log.new folder.new out.new) result }
+    ensures warning { Warns request (outside L.Source F.Folder K.Sink log.old folder.old out.old)
+        (outside L.Source F.Folder K.Sink log.new folder.new out.new) refusal.new result }
     ensures outcome { Ends request (outside L.Source F.Folder K.Sink log.old folder.old out.old)
         (outside L.Source F.Folder K.Sink log.new folder.new out.new) result }
 {
     match request {
         Request::Replay { key, kind } => replay(
-            alloc, hasher, key, kind, log, folder, out, learned,
+            alloc, hasher, key, kind, log, folder, out, learned, refusal,
         ),
         Request::Opener { rules, key, kind } => opener(
             alloc, hasher, rules, key, kind, log, folder, out, learned,
@@ -170,7 +182,9 @@ fn carry_out<L: Source, F: Folder, K: Sink, H: BuildHasher + Drop>(
             write_view(alloc, hasher, &RiskText { by }, from, folder, out, learned)
         }
         Request::RiskLines { kind } => risk_lines(alloc, hasher, kind, log, folder, out, learned),
-        Request::FromRaw { key, kind } => from_raw(alloc, key, kind, log, folder, out, learned),
+        Request::FromRaw { key, kind } => {
+            from_raw(alloc, key, kind, log, folder, out, learned, refusal)
+        }
         Request::Ban {
             rule,
             subnet,

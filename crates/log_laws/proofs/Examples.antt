@@ -27,6 +27,7 @@ use Rattle.peers_file.specs.declared.chain.Chain.TheVariants.{Main}
 use Rattle.log_lines.specs.Spelling.{SpellsCommand}
 use Rattle.log_lines.specs.declared.command.Command.TheVariants as command
 use Rattle.session.specs.History.{fresh}
+use Rattle.session_saves.specs.Refusals.{no_refusals}
 use Rattle.session.specs.State.{SessionState, state}
 use Rattle.table_machine.specs.State as tables
 use Rattle.table_machine.proofs.Lists.{Contains-head}
@@ -56,7 +57,7 @@ abbrev entry : Entry
 entry = record { time = 1700000000; services = 1; peer = peer 8333 }
 
 abbrev pub start : SessionState
-start = state Main (record { tables = tables.empty_state zeros; clock = 1700000000 }) None
+start = state Main (record { tables = tables.empty_state zeros; clock = 1700000000 }) None no_refusals
 
 abbrev payload_text : List ℕ
 payload_text = codes "0100f15365010000000000000000000000000000000000ffff08080808208d"

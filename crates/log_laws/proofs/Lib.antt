@@ -17,3 +17,4 @@ pub mod LinesOf
 pub mod PeersOf
 pub mod RunsOf
 pub mod SharesOf
+pub mod SavedOf

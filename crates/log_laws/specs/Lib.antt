@@ -4,3 +4,4 @@ pub mod Tried
 pub mod Kept
 pub mod LostLines
 pub mod Shares
+pub mod SavedFiles

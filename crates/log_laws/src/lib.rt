@@ -10,10 +10,15 @@
 //!   groups, or to those that sources of these groups put there.
 //! - `runs_lose_with_causes`: each record stays, or is lost in a line with a cause, and the counts
 //!   agree.
+//! - `runs_save_loadable`: after each line a node of Bitcoin Core loads the files of the saves, under
+//!   a key that is not zero, if each tried record of the first file had a success and no line gave
+//!   one at the clock 0.
 //!
 //! Not said: how likely a pick is one of an attacker's peers; `risk_laws` says it of tables.
 #![tactic(auto)]
 
 mod causes;
 
-pub use causes::{groups_reach_few, runs_keep_causes, runs_lose_with_causes};
+pub use causes::{
+    groups_reach_few, runs_keep_causes, runs_lose_with_causes, runs_save_loadable,
+};

@@ -9,15 +9,15 @@ use Rattle.host_io.specs.Writing.{Appended, AppendedPart}
 use Rattle.host_io.proofs.Appending.{append_both}
 use Rattle.grammar.specs.declared.fault.LineFault.{LineFault}
 use Rattle.log_run.specs.Reading.{IsLine, Reading}
-use Rattle.log_run.specs.Run.{Run}
+use Rattle.log_run.specs.Run.{IsSettled, Run}
 use Rattle.log_run.specs.Waiting.{Batch, KeepsWorld, NextLines, StopsAt, in_world}
-use Rattle.log_run.specs.Worlds.{RanIn, StepsIn, WorldStops, both}
+use Rattle.log_run.specs.Worlds.{RanIn, RanTo, StepsIn, WorldStops, both}
 use Rattle.log_run.specs.declared.run.LogEnd.{LogEnd}
 use Rattle.log_run.specs.declared.run.LogEnd.TheVariants.{Fault, WriteFault, Memory}
 use Rattle.log_run.specs.declared.sizes.TheConstants.{MAX_LOG}
 use Rattle.log_run.specs.declared.line_steps.Stop.{Stop}
 use Rattle.log_run.specs.declared.line_steps.Stop.TheVariants as stop
-use Rattle.log_run.proofs.Loops.{Looped, NextRead, at_fault, at_memory, at_write_fault, fewer_left, left_of, looped_more, streams}
+use Rattle.log_run.proofs.Loops.{Looped, NextRead, at_fault, at_memory, at_write_fault, fewer_left, left_of, looped_more, streams, to_stop}
 use Rattle.log_run.proofs.OneMore.{Run-more}
 use Rattle.log_run.proofs.Runs.{Kept}
 
@@ -131,7 +131,7 @@ module _ {S W : Type 0} (step : StepsIn S W) (has_fault : List ℕ → LineFault
 
     -- the next line is not carried out
     pub batch_stops : (new : S) (later : W) (count : ℕ) (why : Stop) → KeepsWorld step → IsLine next count →
-        ((f : LineFault) → why ≡ stop.Fault f → has_fault (take count next.waiting) f × (later ≡ mid)) →
+        ((f : LineFault) → why ≡ stop.Fault f → has_fault (take count next.waiting) f × (later ≡ mid) × (new ≡ state)) →
         (why ≡ stop.Memory → WorldStops step state mid (take count next.waiting) later) →
         Batch step has_fault old next before new world later text all line now (Some why)
     batch_stops new later count (stop.Fault f) keeps is fault memory = record {
@@ -143,7 +143,7 @@ module _ {S W : Type 0} (step : StepsIn S W) (has_fault : List ℕ → LineFault
       whole = b.whole;
       counted = b.counted;
       same_world = (fault f refl).1 ∙ b.same_world;
-      ends = (count, is, (fault f refl).0);
+      ends = (count, is, (fault f refl).0, (fault f refl).2 ∙ b.ends);
     }
     batch_stops new later count stop.Memory keeps is fault memory = batch_memory new later (still (memory refl))
       where
@@ -152,6 +152,14 @@ module _ {S W : Type 0} (step : StepsIn S W) (has_fault : List ℕ → LineFault
         still (inr (reply, after, one)) = keeps state after mid later (take count next.waiting) reply one
 
 -- ---- the run
+
+fault_of_stop : LineFault → Stop → LineFault
+fault_of_stop none (stop.Fault f) = f
+fault_of_stop none stop.Memory = none
+
+same_fault : (f g : LineFault) → stop.Fault f ≡ stop.Fault g → f ≡ g
+unfolding fault_of_stop
+same_fault f g is = ap (fault_of_stop f) is
 
 module _ {S W : Type 0} (step : StepsIn S W) (has_fault : List ℕ → LineFault → Type 0) (start : S × W) (left now out : Option (List ℕ)) where
   -- the lines are answered, once their replies are written
@@ -242,13 +250,24 @@ module _ {S W : Type 0} (step : StepsIn S W) (has_fault : List ℕ → LineFault
       Looped step start left now out written reader state world line → StopsAt has_fault reader state new (Some why) → later ≡ world →
       ((f : LineFault) → why ≡ stop.Fault f → end ≡ Fault (line + 1) f) → (why ≡ stop.Memory → end ≡ Memory) →
       RanIn step has_fault start (streams left out) (streams now written) later end
-  at_batch_stop written reader state new world later line (stop.Fault f) end l (count, is, has) same ends_fault ends_memory =
+  at_batch_stop written reader state new world later line (stop.Fault f) end l (count, is, has, unmoved) same ends_fault ends_memory =
       subst (RanIn step has_fault start (streams left out) (streams now written) later) (sym (ends_fault f refl))
       (at_fault step has_fault start left now now out written reader reader state world later line count f l (no_read reader now) (no_moves now reader.waiting) is has same)
   at_batch_stop written reader state new world later line stop.Memory end l stops same ends_fault ends_memory =
       subst (RanIn step has_fault start (streams left out) (streams now written) later) (sym (ends_memory refl))
       (subst (λ w. RanIn step has_fault start (streams left out) (streams now written) w Memory) (sym same)
       (at_memory step has_fault start left now now out written reader reader state world line l (no_read reader now) (no_moves now reader.waiting)))
+
+  -- and the state is as it was before it
+  pub to_batch_stop : (written : Option (List ℕ)) (reader : Reading) (state new : S) (world later : W) (line : ℕ) (why : Stop) (end : LogEnd) →
+      Looped step start left now out written reader state world line → StopsAt has_fault reader state new (Some why) → later ≡ world →
+      ((f : LineFault) → why ≡ stop.Fault f → end ≡ Fault (line + 1) f) → (why ≡ stop.Memory → end ≡ Memory) →
+      IsSettled end → RanTo step has_fault start (streams left out) (streams now written) new later end
+  to_batch_stop written reader state new world later line (stop.Fault f) end l (count, is, has, unmoved) same ends_fault ends_memory settled =
+      to_stop step has_fault start left now now out written reader reader state new world later line count (stop.Fault f) end l (no_read reader now) (no_moves now reader.waiting) is
+      (λ g is_g. (subst (has_fault (take count reader.waiting)) (same_fault f g is_g) has, same, unmoved)) ends_fault ends_memory settled
+  to_batch_stop written reader state new world later line stop.Memory end l stops same ends_fault ends_memory settled =
+      absurd (subst IsSettled (ends_memory refl) settled)
 
   -- The lines that wait after the next one are no more than a log has after it.
   pub waits_within : (mid written : Option (List ℕ)) (reader next behind : Reading) (state : S) (world : W) (line count : ℕ) →

@@ -10,8 +10,8 @@ use Rattle.grammar.specs.declared.fault.LineFault.{LineFault}
 use Rattle.log_run.specs.Log.{IsAtEnd}
 use Rattle.log_run.specs.Reading.{HasMore, HasNoLine, HasRead, IsLine, IsLong, Reading}
 use Rattle.log_run.specs.Reading.IsNext.{fed, last}
-use Rattle.log_run.specs.Run.{EndsBy, NextLine, Run, Streams, last_reply}
-use Rattle.log_run.specs.Worlds.{RanIn, StepsIn, WorldStops, both}
+use Rattle.log_run.specs.Run.{EndsBy, IsSettled, NextLine, Run, Streams, last_reply}
+use Rattle.log_run.specs.Worlds.{RanIn, RanTo, StepsIn, WorldStops, both}
 use Rattle.log_run.specs.declared.run.LogEnd.{LogEnd}
 use Rattle.log_run.specs.declared.run.LogEnd.TheVariants.{Done, Fault, LineTooLong, LogTooLong, ReadFault, WriteFault, Memory}
 use Rattle.log_run.specs.declared.line_steps.Stop.{Stop}
@@ -24,18 +24,18 @@ use Rattle.log_run.proofs.Runs.{Kept, Read, begins, is_near, kept_line, kept_sta
 abbrev pub left_of : Reading → ℕ
 left_of reader = MAX_LOG - reader.taken + length reader.waiting
 
-append_empty : (old mid : Option (List ℕ)) (text : List ℕ) → Appended old mid text → Appended old mid (text ++ [])
+pub append_empty : (old mid : Option (List ℕ)) (text : List ℕ) → Appended old mid text → Appended old mid (text ++ [])
 append_empty old mid text whole = subst (Appended old mid) (sym (append-nil text)) whole
 
 -- a part of the next text was appended; not all of it, if contracts know the output
-part_after : (old mid new : Option (List ℕ)) (text reply : List ℕ) → Appended old mid text → AppendedPart mid new reply
+pub part_after : (old mid new : Option (List ℕ)) (text reply : List ℕ) → Appended old mid text → AppendedPart mid new reply
     → (n : ℕ) × Appended old new (text ++ take n reply) × IfSome old (λ _. n < length reply)
 part_after None mid new text reply whole part = (0, tt, tt)
 part_after (Some before) mid new text reply whole part =
     let p = subst (λ o. IfSome o (λ b. (n : ℕ) × (n < length reply) × (new ≡ Some (b ++ take n reply)))) whole part in
     (p.0, p.2 ∙ ap Some (append_assoc before text (take p.0 reply)), p.1)
 
-more_left : (old : Option (List ℕ)) (n : ℕ) (reply : List ℕ) → IfSome old (λ _. n < length reply) → IfSome old (λ _. drop n reply ≢ [])
+pub more_left : (old : Option (List ℕ)) (n : ℕ) (reply : List ℕ) → IfSome old (λ _. n < length reply) → IfSome old (λ _. drop n reply ≢ [])
 more_left None n reply short = tt
 more_left (Some b) n reply short = λ none. omega (arith, short, length-drop n reply, ap length none)
 
@@ -76,7 +76,7 @@ pub record NextRead (reader next : Reading) (mid after : Option (List ℕ)) : Ty
   pub within : reader.taken ≤ MAX_LOG → next.taken ≤ MAX_LOG
 
 -- how a run has ended, where all replies are written
-ends_with : {S W : Type 0} (step : StepsIn S W) (has_fault : List ℕ → LineFault → Type 0) (start : S × W)
+unfoldable pub ends_with : {S W : Type 0} (step : StepsIn S W) (has_fault : List ℕ → LineFault → Type 0) (start : S × W)
     (left mid after : Option (List ℕ)) (out written : Option (List ℕ)) (reader next : Reading) (state : S) (world later : W) (line : ℕ) (rest : List ℕ) (end : LogEnd)
     (l : Looped step start left mid out written reader state world line) → Read reader next mid after rest
     → EndsBy has_fault (log_of l.given next rest) l.answered (next.waiting ++ rest) (last_reply (both step) start l.answered l.replies (state, world) [] l.runs) []
@@ -102,17 +102,17 @@ ends_with step has_fault start left mid after out written reader next state worl
 }
 
 -- nothing is left at the end
-ends_done : (left after : Option (List ℕ)) → IfSome left (λ _. after ≡ Some (rest_of after)) → IsAtEnd after → IfSome left (λ _. after ≡ Some [])
+pub ends_done : (left after : Option (List ℕ)) → IfSome left (λ _. after ≡ Some (rest_of after)) → IsAtEnd after → IfSome left (λ _. after ≡ Some [])
 ends_done None after is end = tt
 ends_done (Some all) None is end = cc is
 ends_done (Some all) (Some bytes) is end = ap Some end
 
-none_left : (next : Reading) (after : Option (List ℕ)) → next.waiting ≡ [] → IsAtEnd after → next.waiting ++ rest_of after ≡ []
+pub none_left : (next : Reading) (after : Option (List ℕ)) → next.waiting ≡ [] → IsAtEnd after → next.waiting ++ rest_of after ≡ []
 none_left next None none end = ap (λ w. w ++ []) none
 none_left next (Some bytes) none end = ap (λ w. w ++ bytes) none ∙ end
 
 -- what comes after the first bytes of a log that is too long
-more_than : (reader next : Reading) (mid after : Option (List ℕ)) → HasMore reader next mid after
+pub more_than : (reader next : Reading) (mid after : Option (List ℕ)) → HasMore reader next mid after
     → (rest : List ℕ) × (rest ≢ []) × ((bytes : List ℕ) → mid ≡ Some bytes → reader.waiting ++ bytes ≡ next.waiting ++ rest)
     × IfSome mid (λ _. after ≡ Some (drop 1 rest))
 more_than reader next None after more = (0 ∷ [], (λ is. cc is), (λ bytes is. cc is), tt)
@@ -128,7 +128,7 @@ more_than reader next (Some bytes) after more =
     same other is = ap value_of is
 
 -- how many bytes were taken of the log
-takes : (left mid after : Option (List ℕ)) (reader next : Reading) (answered : List (List ℕ)) (given rest : List ℕ) (extra : ℕ)
+pub takes : (left mid after : Option (List ℕ)) (reader next : Reading) (answered : List (List ℕ)) (given rest : List ℕ) (extra : ℕ)
     → Kept left mid reader answered given → Read reader next mid after rest → IfSome left (λ _. after ≡ Some (drop extra rest)) → extra ≤ 1
     → TakesAtMost left after (MAX_LOG + 1)
 takes None mid after reader next answered given rest extra k r is few = tt
@@ -141,7 +141,7 @@ takes (Some all) mid after reader next answered given rest extra k r is few =
     )
 
 -- what is read for the next line, if it is not more than a log may have
-as_read : {S W : Type 0} (step : StepsIn S W) (start : S × W) (left mid after out written : Option (List ℕ)) (reader next : Reading) (state : S) (world : W) (line : ℕ)
+pub as_read : {S W : Type 0} (step : StepsIn S W) (start : S × W) (left mid after out written : Option (List ℕ)) (reader next : Reading) (state : S) (world : W) (line : ℕ)
     → Looped step start left mid out written reader state world line → NextRead reader next mid after → MovesBytes mid after reader.waiting next.waiting
     → Read reader next mid after (rest_of after)
 as_read step start left mid after out written reader next state world line l n moved =
@@ -155,7 +155,7 @@ takes_read step start left mid after out written reader next state world line l 
     (left_is left mid after reader next l.answered l.given l.kept moved) (omega arith)
 
 -- the log has ended
-pub at_done : {S W : Type 0} (step : StepsIn S W) (has_fault : List ℕ → LineFault → Type 0) (start : S × W)
+unfoldable pub at_done : {S W : Type 0} (step : StepsIn S W) (has_fault : List ℕ → LineFault → Type 0) (start : S × W)
     (left mid after out written : Option (List ℕ)) (reader next : Reading) (state : S) (world : W) (line : ℕ)
     → Looped step start left mid out written reader state world line → NextRead reader next mid after → MovesBytes mid after reader.waiting next.waiting
     → (next.waiting ≡ []) × IsTrue next.is_ended → RanIn step has_fault start (streams left out) (streams after written) world Done
@@ -166,7 +166,7 @@ at_done step has_fault start left mid after out written reader next state world 
     (refl, none_left next after none.0 end, ends_done left after (left_is left mid after reader next l.answered l.given l.kept moved) end) refl
 
 -- the log cannot be read
-pub at_failed : {S W : Type 0} (step : StepsIn S W) (has_fault : List ℕ → LineFault → Type 0) (start : S × W)
+unfoldable pub at_failed : {S W : Type 0} (step : StepsIn S W) (has_fault : List ℕ → LineFault → Type 0) (start : S × W)
     (left mid after out written : Option (List ℕ)) (reader next : Reading) (state : S) (world : W) (line : ℕ)
     → Looped step start left mid out written reader state world line → NextRead reader next mid after → MovesBytes mid after reader.waiting next.waiting
     → HasNoLine next → RanIn step has_fault start (streams left out) (streams after written) world ReadFault
@@ -185,7 +185,7 @@ at_failed step has_fault start left mid after out written reader next state worl
     ) refl
 
 -- the next line is too long
-pub at_long : {S W : Type 0} (step : StepsIn S W) (has_fault : List ℕ → LineFault → Type 0) (start : S × W)
+unfoldable pub at_long : {S W : Type 0} (step : StepsIn S W) (has_fault : List ℕ → LineFault → Type 0) (start : S × W)
     (left mid after out written : Option (List ℕ)) (reader next : Reading) (state : S) (world : W) (line : ℕ)
     → Looped step start left mid out written reader state world line → NextRead reader next mid after → MovesBytes mid after reader.waiting next.waiting
     → IsLong next → RanIn step has_fault start (streams left out) (streams after written) world (LineTooLong (line + 1))
@@ -208,11 +208,11 @@ at_memory step has_fault start left mid after out written reader next state worl
     ends_with step has_fault start left mid after out written reader next state world world line (rest_of after) Memory l
     (as_read step start left mid after out written reader next state world line l n moved) (inl refl) refl
 
-untrue : (e : Bool) → e ≡ false → IsTrue e → ⊥
+pub untrue : (e : Bool) → e ≡ false → IsTrue e → ⊥
 untrue e off is = cc (off, is)
 
 -- the log is too long
-as_more : {S W : Type 0} (step : StepsIn S W) (start : S × W) (left mid after out written : Option (List ℕ)) (reader next : Reading) (state : S) (world : W) (line : ℕ)
+pub as_more : {S W : Type 0} (step : StepsIn S W) (start : S × W) (left mid after out written : Option (List ℕ)) (reader next : Reading) (state : S) (world : W) (line : ℕ)
     → Looped step start left mid out written reader state world line → NextRead reader next mid after → next.is_ended ≡ false
     → (m : (rest : List ℕ) × (rest ≢ []) × ((bytes : List ℕ) → mid ≡ Some bytes → reader.waiting ++ bytes ≡ next.waiting ++ rest)
     × IfSome mid (λ _. after ≡ Some (drop 1 rest))) → Read reader next mid after m.0
@@ -224,7 +224,7 @@ as_more step start left mid after out written reader next state world line l n g
   within = n.within l.kept.within;
 }
 
-known_more : (left mid after : Option (List ℕ)) (reader : Reading) (answered : List (List ℕ)) (given rest : List ℕ) → Kept left mid reader answered given
+pub known_more : (left mid after : Option (List ℕ)) (reader : Reading) (answered : List (List ℕ)) (given rest : List ℕ) → Kept left mid reader answered given
     → IfSome mid (λ _. after ≡ Some (drop 1 rest)) → IfSome left (λ _. after ≡ Some (drop 1 rest))
 known_more None mid after reader answered given rest k is = tt
 known_more (Some all) mid after reader answered given rest k is = subst (λ o. IfSome o (λ _. after ≡ Some (drop 1 rest))) (k.moved all refl).1 is
@@ -237,7 +237,7 @@ takes_more step start left mid after out written reader next state world line l 
     takes left mid after reader next l.answered l.given m.0 1 l.kept (as_more step start left mid after out written reader next state world line l n more.2 m)
     (known_more left mid after reader l.answered l.given m.0 l.kept m.3) (omega arith)
 
-pub at_too_long : {S W : Type 0} (step : StepsIn S W) (has_fault : List ℕ → LineFault → Type 0) (start : S × W)
+unfoldable pub at_too_long : {S W : Type 0} (step : StepsIn S W) (has_fault : List ℕ → LineFault → Type 0) (start : S × W)
     (left mid after out written : Option (List ℕ)) (reader next : Reading) (state : S) (world : W) (line : ℕ)
     → Looped step start left mid out written reader state world line → NextRead reader next mid after
     → HasNoLine next × (next.taken ≡ MAX_LOG) × (next.is_ended ≡ false) × HasMore reader next mid after
@@ -260,7 +260,7 @@ at_too_long step has_fault start left mid after out written reader next state wo
     ) refl
 
 -- the next line, in the lines that are left
-next_of : {S W : Type 0} (step : StepsIn S W) (start : S × W) (left mid after out written : Option (List ℕ)) (reader next : Reading) (state : S) (world : W) (line count : ℕ)
+pub next_of : {S W : Type 0} (step : StepsIn S W) (start : S × W) (left mid after out written : Option (List ℕ)) (reader next : Reading) (state : S) (world : W) (line count : ℕ)
     (l : Looped step start left mid out written reader state world line) → Read reader next mid after (rest_of after) → IsLine next count
     → NextLine (log_of l.given next (rest_of after)) l.answered (next.waiting ++ rest_of after) (take count next.waiting) (drop (count + 1) next.waiting ++ rest_of after)
 next_of step start left mid after out written reader next state world line count l r is =
@@ -287,8 +287,34 @@ at_fault step has_fault start left mid after out written reader next state world
       ),
     ) same
 
+-- and the state is as it was before the line
+pub to_fault : {S W : Type 0} (step : StepsIn S W) (has_fault : List ℕ → LineFault → Type 0) (start : S × W)
+    (left mid after out written : Option (List ℕ)) (reader next : Reading) (state end_state : S) (world later : W) (line count : ℕ) (fault : LineFault)
+    → Looped step start left mid out written reader state world line → NextRead reader next mid after → MovesBytes mid after reader.waiting next.waiting
+    → IsLine next count → has_fault (take count next.waiting) fault → later ≡ world → end_state ≡ state
+    → RanTo step has_fault start (streams left out) (streams after written) end_state later (Fault (line + 1) fault)
+unfolding at_fault ends_with
+to_fault step has_fault start left mid after out written reader next state end_state world later line count fault l n moved is has same same_state = record {
+  ran_in = at_fault step has_fault start left mid after out written reader next state world later line count fault l n moved is has same;
+  same_state = same_state;
+}
+
+-- the same of any line that is not carried out
+pub to_stop : {S W : Type 0} (step : StepsIn S W) (has_fault : List ℕ → LineFault → Type 0) (start : S × W)
+    (left mid after out written : Option (List ℕ)) (reader next : Reading) (state end_state : S) (world later : W) (line count : ℕ) (why : Stop) (end : LogEnd)
+    → Looped step start left mid out written reader state world line → NextRead reader next mid after → MovesBytes mid after reader.waiting next.waiting
+    → IsLine next count → ((f : LineFault) → why ≡ stop.Fault f → has_fault (take count next.waiting) f × (later ≡ world) × (end_state ≡ state))
+    → ((f : LineFault) → why ≡ stop.Fault f → end ≡ Fault (line + 1) f) → (why ≡ stop.Memory → end ≡ Memory)
+    → IsSettled end → RanTo step has_fault start (streams left out) (streams after written) end_state later end
+to_stop step has_fault start left mid after out written reader next state end_state world later line count (stop.Fault f) end l n moved is fault ends_fault ends_memory settled =
+    let h = fault f refl in
+    subst (RanTo step has_fault start (streams left out) (streams after written) end_state later) (sym (ends_fault f refl))
+    (to_fault step has_fault start left mid after out written reader next state end_state world later line count f l n moved is h.0 h.1 h.2)
+to_stop step has_fault start left mid after out written reader next state end_state world later line count stop.Memory end l n moved is fault ends_fault ends_memory settled =
+    absurd (subst IsSettled (ends_memory refl) settled)
+
 -- how a run has ended, where the last line is carried out, and a part of its reply is written
-ends_in : {S W : Type 0} (step : StepsIn S W) (has_fault : List ℕ → LineFault → Type 0) (start : S × W)
+pub ends_in : {S W : Type 0} (step : StepsIn S W) (has_fault : List ℕ → LineFault → Type 0) (start : S × W)
     (left mid after out written new : Option (List ℕ)) (reader next : Reading) (state new_state : S) (world later : W) (line count : ℕ) (part unwritten : List ℕ) (end : LogEnd)
     (l : Looped step start left mid out written reader state world line) → NextRead reader next mid after → MovesBytes mid after reader.waiting next.waiting
     → IsLine next count → step state world (take count next.waiting) (part ++ unwritten) new_state later → Appended out new (l.replies ++ part)
@@ -319,7 +345,7 @@ ends_in step has_fault start left mid after out written new reader next state ne
     }
 
 -- the line runs out of memory
-at_line_memory : {S W : Type 0} (step : StepsIn S W) (has_fault : List ℕ → LineFault → Type 0) (start : S × W)
+pub at_line_memory : {S W : Type 0} (step : StepsIn S W) (has_fault : List ℕ → LineFault → Type 0) (start : S × W)
     (left mid after out written : Option (List ℕ)) (reader next : Reading) (state : S) (world later : W) (line count : ℕ)
     → Looped step start left mid out written reader state world line → NextRead reader next mid after → MovesBytes mid after reader.waiting next.waiting
     → IsLine next count → WorldStops step state world (take count next.waiting) later
@@ -346,7 +372,7 @@ at_stop step has_fault start left mid after out written reader next state world 
     subst (RanIn step has_fault start (streams left out) (streams after written) later) (sym (ends_memory refl))
     (at_line_memory step has_fault start left mid after out written reader next state world later line count l n moved is (memory refl))
 
-not_empty : (lines : List (List ℕ)) (line : List ℕ) → lines ++ line ∷ [] ≡ [] → ⊥
+pub not_empty : (lines : List (List ℕ)) (line : List ℕ) → lines ++ line ∷ [] ≡ [] → ⊥
 not_empty [] line is = cc is
 not_empty (first ∷ lines) line is = cc is
 

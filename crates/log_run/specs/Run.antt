@@ -1,6 +1,6 @@
 -- A run over the lines of a log, one step a line, and how it ends. A step leads from a state, by a
 -- line, to the text of the reply and the next state.
-use Rattle.std.specs.Prelude.{◌≡◌, ◌≢◌, ◌⊎◌, ℕ, ◌+◌, ◌≤◌, List, [], ◌∷◌, ◌++◌, length, drop, Option, Some, IfSome}
+use Rattle.std.specs.Prelude.{◌≡◌, ◌≢◌, ◌⊎◌, ℕ, ◌+◌, ◌≤◌, List, [], ◌∷◌, ◌++◌, length, drop, Option, Some, IfSome, ⊤}
 use Rattle.host_io.specs.Lines.{lines_of}
 use Rattle.host_io.specs.Writing.{Appended}
 use Rattle.grammar.specs.declared.fault.LineFault.{LineFault}
@@ -92,3 +92,10 @@ pub record Ran {S : Type 0} (step : Steps S) (has_fault : List ℕ → LineFault
   pub written : Appended old.written new.written text
   pub ends : EndsBy has_fault log carried next
       (last_reply step start carried replies now [] runs) unwritten old new end
+
+-- The ends at which the state is that after the last line that is carried out. A reply that could
+-- not be written, or memory that ran out in a line, may leave another one.
+abbrev pub IsSettled : LogEnd → Type 0
+IsSettled WriteFault = ⊥
+IsSettled Memory = ⊥
+IsSettled other = ⊤

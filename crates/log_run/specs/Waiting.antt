@@ -29,7 +29,7 @@ abbrev pub StopsAt : {S : Type 0} → (List ℕ → LineFault → Type 0) → Re
     → (state new : S) → Option Stop → Type 0
 StopsAt has_fault next state new None = new ≡ state
 StopsAt has_fault next state new (Some (stop.Fault fault)) =
-    (count : ℕ) × IsLine next count × has_fault (take count next.waiting) fault
+    (count : ℕ) × IsLine next count × has_fault (take count next.waiting) fault × (new ≡ state)
 StopsAt has_fault next state new (Some stop.Memory) = ⊤
 
 -- Some lines that waited are carried out, and their replies appended to a text. The world stays as

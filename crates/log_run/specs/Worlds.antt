@@ -22,3 +22,9 @@ pub record RanIn {S W : Type 0} (step : StepsIn S W) (has_fault : List ℕ → L
     (start : S × W) (old new : Streams) (world : W) (end : LogEnd) : Type 0 where
   pub ran : Ran (both step) has_fault start old new end
   pub same_world : world ≡ ran.now.1
+
+-- the same, with the state after it, which is that after the last line that is carried out
+pub record RanTo {S W : Type 0} (step : StepsIn S W) (has_fault : List ℕ → LineFault → Type 0)
+    (start : S × W) (old new : Streams) (state : S) (world : W) (end : LogEnd) : Type 0 where
+  pub ran_in : RanIn step has_fault start old new world end
+  pub same_state : state ≡ ran_in.ran.now.0

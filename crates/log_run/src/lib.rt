@@ -4,7 +4,7 @@
 //! state, any step, and anything else that a line may change, such as a folder.
 //!
 //! Proved: how `run_log` ends, which replies are written then, and how much of the log is taken
-//! (`ran`, `taken`). It keeps at most a line and one read in memory.
+//! (`ran`, `taken`), and which state it leaves unless memory or the output failed (`settled`). It keeps at most a line and one read in memory.
 //!
 //! Tested only: that no byte is read while a whole line is there to be carried out, nor before the
 //! replies to the lines before it are written.

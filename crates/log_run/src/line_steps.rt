@@ -70,7 +70,7 @@ pub trait LineSteps<W> {
         ensures ready { OnOk result (ready self.new world.new) }
         ensures room { (n : ℕ) → has_room self.old (n + 1) → OnOk result (has_room self.new n) }
         ensures fault { (fault : LineFault) → result ≡ Err (Stop.Fault fault) →
-            has_fault line.now fault × (world.new ≡ world.old) }
+            has_fault line.now fault × (world.new ≡ world.old) × (self.new ≡ self.old) }
         ensures memory { IsErrOf result Stop.Memory →
             WorldStops step self.old world.old line.now world.new };
 }

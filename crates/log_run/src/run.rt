@@ -2,8 +2,9 @@ ghost use Rattle.std.specs.Prelude.{◌≡◌, ◌≢◌, ◌+◌, ◌-◌, ◌�
 ghost use Rattle.host_io.specs.Reading.{TakesAtMost};
 ghost use Rattle.grammar.specs.declared.fault.LineFault.{LineFault};
 ghost use Rattle.log_run.specs.Counts.{IsCounted};
+ghost use Rattle.log_run.specs.Run.{IsSettled};
 ghost use Rattle.log_run.specs.Waiting.{Batch, KeepsWorld};
-ghost use Rattle.log_run.specs.Worlds.{RanIn};
+ghost use Rattle.log_run.specs.Worlds.{RanIn, RanTo};
 ghost use Rattle.log_run.specs.declared.sizes.TheConstants.{MAX_LOG};
 
 use crate::line_steps::{LineSteps, Stop};
@@ -138,6 +139,10 @@ pub fn run_log<W, S: LineSteps<W>, L: Source, K: Sink>(
     ensures ran { RanIn S.step S.has_fault (state.old, world.old)
         (record { left = L.left log.old; written = K.written out.old })
         (record { left = L.left log.new; written = K.written out.new }) world.new result }
+    ensures settled { IsSettled result → RanTo S.step S.has_fault (state.old, world.old)
+        (record { left = L.left log.old; written = K.written out.old })
+        (record { left = L.left log.new; written = K.written out.new })
+        state.new world.new result }
     ensures taken { TakesAtMost (L.left log.old) (L.left log.new) (MAX_LOG + 1) }
     ensures read { IsCounted LogEnd.ReadFault (L.faults log.old) (L.faults log.new) result }
     ensures write { IsCounted LogEnd.WriteFault (K.faults out.old) (K.faults out.new) result }

@@ -3,6 +3,7 @@ ghost use Rattle.table_machine.specs.State.{find_peer};
 ghost use Rattle.table_machine.specs.Snapshot.{snapshot_of, file_rec};
 ghost use Rattle.table_machine.specs.Restart.{restart};
 ghost use Rattle.table_machine.specs.Restoring.{restored, duplicate};
+ghost use Rattle.node_check.specs.Laws.{LoadsAsSaved};
 ghost use Rattle.tables.specs.Restored.{IsCause};
 ghost use Rattle.peer_rec.specs.Rec.{buckets_of};
 ghost use Rattle.peers_file.specs.Texts.{file_text, record_text};
@@ -62,11 +63,13 @@ fn count_recs<H: BuildHasher, L: Ledger>(
     tables.recs(&mut steps)
 }
 
-/// Returns what a file of peers keeps of the tables (`Tables::snapshot`).
+/// Returns what a file of peers keeps of the tables (`Tables::snapshot`). A node of Bitcoin Core
+/// loads it as these tables, unless `node_check::why_refused` says otherwise.
 pub fn snapshot<H: BuildHasher>(tables: &Tables<'_, H>) -> Result<Snapshot, Memory>
     ensures found { IfOk result (λ snap. snap ≡ snapshot_of tables.now) }
     ensures restart { IfOk result (λ snap. restored snap tables.now.places ≡ restart tables.now) }
     ensures no_duplicate { IfOk result (λ snap. duplicate snap ≡ None) }
+    ensures loads { LoadsAsSaved tables.now }
 {
     count_snapshot::<H, Brand>(tables, Blank::new(1))
 }
@@ -82,6 +85,7 @@ fn count_snapshot<H: BuildHasher, L: Ledger>(
     ensures found { IfOk result (λ snap. snap ≡ snapshot_of tables.now) }
     ensures restart { IfOk result (λ snap. restored snap tables.now.places ≡ restart tables.now) }
     ensures no_duplicate { IfOk result (λ snap. duplicate snap ≡ None) }
+    ensures loads { LoadsAsSaved tables.now }
 {
     let mut steps = Steps::<L>::none(blank);
     tables.snapshot(&mut steps)

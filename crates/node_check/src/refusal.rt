@@ -1,4 +1,4 @@
-ghost use Rattle.std.specs.Prelude.{◌≡◌, None, ◌==◌};
+ghost use Rattle.std.specs.Prelude.{◌≡◌, ◌<◌, All, None, ◌==◌};
 ghost use Rattle.std.specs.List.{list_any};
 ghost use Rattle.node_check.specs.Check.{is_zero};
 ghost use Rattle.node_check.specs.Laws.{IsLoadable, refusal_of};
@@ -23,8 +23,9 @@ fn lacks_some(recs: &[FileRec]) -> bool
 }
 
 /// Returns whether each byte of a key is zero.
-fn is_zero(key: &[u8; 32]) -> bool
-    ensures { result ≡ is_zero key.now }
+fn is_zero(key: &[u8]) -> bool
+    ensures found { result ≡ is_zero key.now }
+    ensures bytes { All (λ b. b < 256) key.now }
 {
     key.iter().all(|byte| *byte == 0)
 }
@@ -32,12 +33,14 @@ fn is_zero(key: &[u8; 32]) -> bool
 /// Returns why a node does not start over the file of a snapshot, or nothing if it does whatever its
 /// asmap is.
 pub fn why_refused(snap: &Snapshot) -> Option<Refusal>
-    ensures { result ≡ refusal_of snap.now }
+    ensures found { result ≡ refusal_of snap.now }
+    ensures key_bytes { All (λ b. b < 256) snap.now.key }
 {
+    let has_zero_key = is_zero(&snap.key());
     if lacks_some(snap.tried_recs()) {
         return Some(Refusal::NoSuccess);
     }
-    if is_zero(&snap.key()) {
+    if has_zero_key {
         return Some(Refusal::ZeroKey);
     }
     None

@@ -199,6 +199,9 @@ pub fn write_file(alloc: Global, snap: &Snapshot, chain: Chain) -> Result<Bytes,
     ensures no_fault { IfOk result (λ bytes. (fault : FileFault)
         → HasFileFault chain bytes fault → ⊥) }
     ensures short { IfOk result (λ bytes. length bytes < MAX_FILE) }
+    ensures snapshot { OnOk result (IsSnapshot snap.now) }
+    ensures new_fit { OnOk result (All IsFileRec snap.now.new_recs) }
+    ensures tried_fit { OnOk result (All IsFileRec snap.now.tried_recs) }
 {
     let recs_length = length_of(snap.new_recs()) + length_of(snap.tried_recs());
     let length = EMPTY_FILE + recs_length + 4 * snap.listed().len();

@@ -3,3 +3,4 @@ mod Facts
 mod Inputs
 mod Distinct
 mod Filled
+pub mod LoadingOf

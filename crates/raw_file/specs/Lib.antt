@@ -4,3 +4,4 @@ pub mod Listing
 pub mod Faults
 pub mod Inside
 pub mod Opening
+pub mod Loading

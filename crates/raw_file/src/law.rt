@@ -1,6 +1,10 @@
 ghost use Rattle.std.specs.Prelude.{◌≡◌, ℕ, List, None};
+ghost use Rattle.node_check.specs.Laws.{IsReadable};
+ghost use Rattle.peer_rec.specs.Snapshot.{Snapshot};
 ghost use Rattle.placing.specs.Places.{Places};
+ghost use Rattle.raw_file.specs.Faults.{IsListing};
 ghost use Rattle.raw_file.specs.Listing.{first_fault};
+ghost use Rattle.raw_file.specs.Loading.{LoadsListing};
 ghost use Rattle.raw_file.specs.Opening.{OpensListing};
 ghost use Rattle.raw_read.specs.Raw.{IsRaw};
 ghost use Rattle.raw_read.specs.declared.raw.Raw.{Raw};
@@ -15,3 +19,10 @@ pub fn listings_open()
 {
     openings_lose_with_causes()
 }
+
+/// A node of Bitcoin Core loads the file of a listing, whatever its asmap is, if the key is not
+/// zero: each tried record has a success. The values must fit the fields of a file.
+pub fn listings_load()
+    ensures { (key sum bytes : List ℕ) (snap : Snapshot) →
+        IsListing key sum bytes snap → IsReadable snap → LoadsListing key snap }
+{}

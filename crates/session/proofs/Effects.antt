@@ -1,6 +1,6 @@
 -- What a command has done.
-use Rattle.std.proofs.Common.{◌≡◌, ℕ, List, inl, refl, sym, subst}
-use Rattle.std.specs.Prelude.{Option, Some, None, IfSome, IsSomeAnd, Bool}
+use Rattle.std.proofs.Common.{◌≡◌, ℕ, List, ap, inl, refl, sym, subst}
+use Rattle.std.specs.Prelude.{Option, Some, None, IfOk, IfSome, IsSomeAnd, Bool, Result, Ok, Err}
 use Rattle.std.specs.Option.{option_map}
 use Rattle.host_io.specs.Past.{Past}
 use Rattle.log_lines.specs.declared.command.Command.TheVariants as command
@@ -9,6 +9,8 @@ use Rattle.save_store.specs.Job.{Job, whole}
 use Rattle.session_saves.specs.Events.{Ended, Event, IsOfEvent, SaveCommand, event_of, save, save_begin, save_end, save_step}
 use Rattle.session_saves.specs.Files.{file_of, published, unless}
 use Rattle.session_saves.specs.Folders.{Effect}
+use Rattle.session_saves.specs.Refusals.{noted, refusal_now}
+use Rattle.session_saves.specs.declared.refusals.Refusals.{Refusals}
 use Rattle.session.specs.Folders.{MayPublish}
 use Rattle.session.specs.Inside.{Carried}
 use Rattle.session.specs.State.{SessionState, file_now, state}
@@ -18,20 +20,26 @@ use Rattle.manager.specs.Machine.{Machine}
 use Rattle.manager.specs.Step.{Step, SavesNothing}
 use Rattle.peers_file.specs.declared.chain.Chain.{Chain}
 
+-- two facts of a value that is there
+pub both_ok : {T E : Type 0} {P Q R : T → Type 0} (result : Result T E) → ((x : T) → P x → Q x → R x) → IfOk result P → IfOk result Q → IfOk result R
+both_ok (Ok x) both first second = both x first second
+both_ok (Err e) both first second = tt
+
 -- what a save command has done
 pub carried : (chain : Chain) (machine : Machine) (job new : Option Job) (asked : Command) (answer : Reply)
     (file : Option (List ℕ)) (before after : Option Past) (f g : ℕ)
+    (old noting : Refusals) → noting ≡ noted (refusal_now machine.tables) asked answer old
     → IsSomeAnd (event_of (file_of chain machine.tables) job asked) (λ outcome. Effect outcome file answer new before after f g)
-    → Carried (state chain machine job) asked answer (state chain machine new) after f g
-carried chain machine job new asked answer file before after f g = by (event_of (file_of chain machine.tables) job asked) refl
+    → Carried (state chain machine job old) asked answer (state chain machine new noting) after f g
+carried chain machine job new asked answer file before after f g old noting notes = by (event_of (file_of chain machine.tables) job asked) refl
   where
     by : (o : Option (Bool → Event)) → event_of (file_of chain machine.tables) job asked ≡ o
         → IsSomeAnd o (λ outcome. Effect outcome file answer new before after f g)
-        → Carried (state chain machine job) asked answer (state chain machine new) after f g
+        → Carried (state chain machine job old) asked answer (state chain machine new noting) after f g
     by None is none = absurd none
     by (Some outcome) is effect = record {
       ended = effect.ended;
-      step = inl (new, subst (λ o. IsSomeAnd o (λ e. IsOfEvent e answer new effect.ended)) (sym is) effect.step, refl);
+      step = inl (new, subst (λ o. IsSomeAnd o (λ e. IsOfEvent e answer new effect.ended)) (sym is) effect.step, ap (state chain machine new) notes);
       has = effect.has;
     }
 

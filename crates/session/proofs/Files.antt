@@ -35,7 +35,7 @@ ended_at (Some (Saved file)) after f g h = h
 ended_at (Some (NotSaved file)) None f g h = tt
 ended_at (Some (NotSaved file)) (Some p) f g h = tt
 
-step_whole : (j : Job) (n : ℕ) → whole j ≡ whole (after_step j n)
+pub step_whole : (j : Job) (n : ℕ) → whole j ≡ whole (after_step j n)
 step_whole j n = ap (λ t. j.written ++ t) (sym (take-append-drop n j.left)) ∙ sym (append_assoc j.written (take n j.left) (drop n j.left))
 
 -- the file of a save that ended

@@ -3,3 +3,4 @@ pub mod Lines
 pub mod Files
 pub mod Promise
 pub mod OneHistory
+pub mod Noted

@@ -26,6 +26,7 @@ use Rattle.log_run.specs.Run.{Run}
 use Rattle.manager.specs.Machine.{Machine}
 use Rattle.manager.specs.Step as manager
 use Rattle.save_store.specs.Job.{Job}
+use Rattle.session_saves.specs.Refusals.{noted, refusal_now}
 use Rattle.session_saves.specs.Events.{Ended, Event, IsOfEvent, SaveCommand, event_of, save, save_begin, save_end, save_step}
 use Rattle.session.specs.History.{History, HistoryStep, onto}
 use Rattle.session.specs.State.{CommandStep, JobStep, LineStep, MachineStep, SessionState, file_now}
@@ -176,7 +177,8 @@ by_job : (old : SessionState) (asked : Command) (a b : Reply) (s t : SessionStat
     → JobStep old asked a s e → JobStep old asked b t f → Alike a b x y → SameOutcome a s e b t f
 by_job old asked a b s t e f x y h k alike =
     let same = one_save (file_now old) old.job asked a b h.0 k.0 e f x y h.1 k.1 alike in
-    (same.0, h.2 ∙ ap (λ j. record old { job = j }) same.1 ∙ sym k.2, same.2)
+    let after : Reply → Option Job → SessionState = λ r j. record old { job = j; refusals = noted (refusal_now old.machine.tables) asked r old.refusals } in
+    (same.0, h.2 ∙ (λ i. after (same.0 i) (same.1 i)) ∙ sym k.2, same.2)
 
 by_machine : (old : SessionState) (asked : Command) (a b : Reply) (s t : SessionState) (e f : Option Ended) → HasBytes asked
     → MachineStep old asked a s e → MachineStep old asked b t f → SameOutcome a s e b t f

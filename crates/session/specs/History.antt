@@ -1,11 +1,16 @@
 -- A session over several lines, and what a crash may leave of peers.dat.
-use Rattle.std.specs.Prelude.{◌≡◌, ◌≢◌, ◌⊎◌, ℕ, ◌+◌, ◌-◌, List, [], ◌∷◌, Option, Some, None, IfSome}
+use Rattle.std.specs.Prelude.{◌≡◌, ◌≢◌, ◌⊎◌, ℕ, ◌+◌, ◌-◌, List, [], ◌∷◌, Option, Some, None, IfSome, ⊤}
 use Rattle.std.specs.Option.{option_map}
 use Rattle.host_io.specs.Disk.{Disk, MayHave}
 use Rattle.host_io.specs.Past.{Past}
 use Rattle.host_io.specs.PerName.{under}
 use Rattle.host_io.specs.declared.name.Name.{Name}
 use Rattle.host_io.specs.declared.name.Name.TheVariants.{Peers, PeersTemp}
+use Rattle.node_check.specs.Laws.{refusal_of}
+use Rattle.node_check.specs.declared.refusal.Refusal.{Refusal}
+use Rattle.peer_rec.specs.Snapshot.{Snapshot}
+use Rattle.peers_file.specs.Texts.{file_text}
+use Rattle.peers_file.specs.declared.chain.Chain.{Chain}
 use Rattle.save_store.specs.Job.{Job, whole}
 use Rattle.save_store.specs.Saves.{NoMore}
 use Rattle.session_saves.specs.Events.{Ended}
@@ -31,6 +36,24 @@ abbrev pub HistoryStep : History → List ℕ → List ℕ → History → Type 
 HistoryStep old line text new =
     (ended : Option Ended) × LineStep old.now line text new.now ended
     × (new.ended ≡ onto ended old.ended)
+
+-- the files of all saves that have ended
+abbrev pub AllFiles : (List ℕ → Type 0) → List Ended → Type 0
+AllFiles P [] = ⊤
+AllFiles P (Saved file ∷ ended) = P file × AllFiles P ended
+AllFiles P (NotSaved file ∷ ended) = P file × AllFiles P ended
+
+-- the file is that of a snapshot, and this is why a node does not start over it
+abbrev pub IsRefusalOf : Chain → List ℕ → Option Refusal → Type 0
+IsRefusalOf chain file why =
+    (snap : Snapshot) × (file ≡ file_text chain snap) × (why ≡ refusal_of snap)
+
+-- Why a node does not start over the file of the last save that was done; nothing if it does, or if
+-- no save was done.
+abbrev pub IsLastRefusal : Chain → List Ended → Option Refusal → Type 0
+IsLastRefusal chain [] why = why ≡ None
+IsLastRefusal chain (Saved file ∷ ended) why = IsRefusalOf chain file why
+IsLastRefusal chain (NotSaved file ∷ ended) why = IsLastRefusal chain ended why
 
 -- how many saves failed
 abbrev pub failed : List Ended → ℕ

@@ -11,27 +11,35 @@ use Rattle.peers_file.specs.declared.chain.Chain.{Chain}
 use Rattle.save_store.specs.Job.{Job}
 use Rattle.session_saves.specs.Events.{Ended, SaveCommand}
 use Rattle.session_saves.specs.Files.{file_of}
+use Rattle.session_saves.specs.Refusals.{noted, refusal_now}
+use Rattle.session_saves.specs.declared.refusals.Refusals.{Refusals}
 
--- the chain of its files, the machine, and the open save
+-- the chain of its files, the machine, the open save, and why a node does not start over the files
+-- of saves
 pub record SessionState : Type 0 where
   pub chain : Chain
   pub machine : Machine
   pub job : Option Job
+  pub refusals : Refusals
 
-abbrev pub state : Chain → Machine → Option Job → SessionState
-state chain machine job = record { chain = chain; machine = machine; job = job }
+abbrev pub state : Chain → Machine → Option Job → Refusals → SessionState
+state chain machine job refusals =
+    record { chain = chain; machine = machine; job = job; refusals = refusals }
 
 -- the file of the tables as they are
 abbrev pub file_now : SessionState → List ℕ
 file_now st = file_of st.chain st.machine.tables
 
--- a save command, which leaves the machine as it is
+-- a save command, which leaves the machine as it is, and is noted
 abbrev pub JobStep : SessionState → Command → Reply → SessionState → Option Ended → Type 0
 JobStep old asked answer new ended =
     (job : Option Job) × SaveCommand (file_now old) old.job asked answer job ended
-    × (new ≡ record old { job = job })
+    × (new ≡ record old {
+      job = job;
+      refusals = noted (refusal_now old.machine.tables) asked answer old.refusals;
+    })
 
--- a command of the machine, which leaves the open save as it is
+-- a command of the machine, which leaves the open save and what is noted as it is
 abbrev pub MachineStep : SessionState → Command → Reply → SessionState → Option Ended → Type 0
 MachineStep old asked answer new ended =
     (machine : Machine) × manager.Step old.machine asked answer machine

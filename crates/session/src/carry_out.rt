@@ -13,7 +13,7 @@ use log_lines::{Command, Reply};
 use manager::Manager;
 use peers_file::Chain;
 use save_store::SaveJob;
-use session_saves::carry_out_save;
+use session_saves::{Refusals, carry_out_save};
 use std::alloc::Global;
 use std::hash::BuildHasher;
 use std::marker::Brand;
@@ -53,26 +53,27 @@ pub(crate) fn carry_out<F: Folder, H: BuildHasher>(
     manager: &mut Manager<'_, H>,
     chain: Chain,
     job: &mut Option<SaveJob>,
+    refusals: &mut Refusals,
     command: &Command,
 ) -> Result<Reply, Memory>
     requires percent { HasPercent command.now }
     requires room { manager.old.tables.next_number < 2 ^ 62 }
     requires is_open { IsOpen job.old (F.past folder.old) }
     ensures step { IfOk result (λ answer.
-        Carried (state chain manager.old job.old) command.now
-        answer (state chain manager.new job.new)
+        Carried (state chain manager.old job.old refusals.old) command.now
+        answer (state chain manager.new job.new refusals.new)
         (F.past folder.new) (F.faults folder.old) (F.faults folder.new)) }
     ensures any_moment { Always (F.past folder.old) (F.past folder.new)
         (AtMost (published (file_of chain manager.old.tables) job.old command.now)) }
     ensures is_open { IsOpen job.new (F.past folder.new) }
     ensures still { ¬ IsEvent job.old command.now → folder.new ≡ folder.old }
     ensures err { OnErr result ((folder.new ≡ folder.old) × (job.new ≡ job.old)
-        × LeavesPart manager.old command.now manager.new) }
+        × (refusals.new ≡ refusals.old) × LeavesPart manager.old command.now manager.new) }
     ensures numbers { manager.new.tables.next_number
         ≤ manager.old.tables.next_number + MAX_ENTRIES }
     ensures never_falls { F.faults folder.old ≤ F.faults folder.new }
 {
-    match carry_out_save(alloc, folder, manager.tables(), chain, job, command) {
+    match carry_out_save(alloc, folder, manager.tables(), chain, job, refusals, command) {
         Some(done) => done,
         None => apply::<Brand, H>(alloc, manager, command, Blank::new(1)),
     }

@@ -5,18 +5,22 @@ use host_io::Folder;
 use log_lines::{Command, LineFault, put_reply, read_line};
 use log_run::{LineSteps, Stop};
 use manager::Manager;
+use node_check::Refusal;
 use peers_file::Chain;
 use save_store::SaveJob;
+use session_saves::Refusals;
 use std::alloc::Global;
 use std::hash::BuildHasher;
 use std::marker::Model;
 
-/// The address manager, the chain of its files, and the save in pieces that is open, if one is.
+/// The address manager, the chain of its files, the save in pieces that is open, if one is, and why
+/// a node does not start over the files of saves.
 #[derive(Drop)]
 pub struct Session<'a, H: BuildHasher> {
     chain: Chain,
     manager: Manager<'a, H>,
     job: Option<SaveJob>,
+    refusals: Refusals,
 }
 
 impl<'a, H: BuildHasher> Model for Session<'a, H> {
@@ -28,7 +32,8 @@ impl<'a, H: BuildHasher> Model for Session<'a, H> {
 
     ghost coded = { Prim.hlevel (codes, coded_places) };
 
-    ghost view = { λ s. record { chain = s.chain; machine = s.manager; job = s.job } };
+    ghost view = { λ s. record {
+        chain = s.chain; machine = s.manager; job = s.job; refusals = s.refusals } };
 }
 
 impl<'a, H: BuildHasher> Session<'a, H> {
@@ -38,16 +43,19 @@ impl<'a, H: BuildHasher> Session<'a, H> {
     ghost use Rattle.log_lines.specs.Spelling.{HasCommandFault, SpellsCommand};
     ghost use Rattle.manager.specs.Step.{HasPercent};
     ghost use Rattle.session.specs.Folders.{IsEventLine, SessionLeavesPart, MayPublish, Turn};
+    ghost use Rattle.session.specs.State.{state};
     ghost use Rattle.session_saves.specs.Folders.{AtMost, IsOpen};
+    ghost use Rattle.session_saves.specs.Refusals.{no_refusals};
 
     /// Makes a session in which no save is open.
     pub fn make(manager: Manager<'a, H>, chain: Chain) -> Session<'a, H>
-        ensures { result ≡ record { chain = chain; machine = manager.entry; job = None } }
+        ensures { result ≡ state chain manager.entry None no_refusals }
     {
         Session {
             chain,
             manager,
             job: None,
+            refusals: Refusals::none(),
         }
     }
 
@@ -56,6 +64,14 @@ impl<'a, H: BuildHasher> Session<'a, H> {
         ensures { result.now ≡ self.now.machine }
     {
         &self.manager
+    }
+
+    /// Returns why a node of Bitcoin Core does not start over the file of the last save that was
+    /// done, or nothing if it does or none was done.
+    pub fn refusal(&self) -> Option<Refusal>
+        ensures { result ≡ self.now.refusals.of_last }
+    {
+        self.refusals.of_last
     }
 
     /// Carries out a line of a log, which has no line feed, and appends the text of its reply: none
@@ -132,7 +148,8 @@ impl<'a, H: BuildHasher> Session<'a, H> {
         ensures never_falls { F.faults folder.old ≤ F.faults folder.new }
     {
         let (manager, job) = (&mut self.manager, &mut self.job);
-        let Ok(reply) = carry_out(alloc, folder, manager, self.chain, job, command) else {
+        let refusals = &mut self.refusals;
+        let Ok(reply) = carry_out(alloc, folder, manager, self.chain, job, refusals, command) else {
             return Err(LineFault::Memory);
         };
         match put_reply(&reply, out) {

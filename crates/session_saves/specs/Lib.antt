@@ -1,3 +1,4 @@
 pub mod Events
 pub mod Files
 pub mod Folders
+pub mod Refusals

@@ -3,7 +3,9 @@ ghost use Rattle.host_io.specs.Past.{Always};
 ghost use Rattle.session_saves.specs.Events.{IsEvent, event_of};
 ghost use Rattle.session_saves.specs.Files.{file_of, published};
 ghost use Rattle.session_saves.specs.Folders.{AtMost, Effect, IsOpen};
+ghost use Rattle.session_saves.specs.Refusals.{noted, refusal_now};
 
+use crate::Refusals;
 use crate::events::{end_line, step_line};
 use crate::saving::{begin, save};
 use host_io::Folder;
@@ -21,6 +23,7 @@ pub fn carry_out_save<F: Folder, H: BuildHasher>(
     tables: &Tables<'_, H>,
     chain: Chain,
     job: &mut Option<SaveJob>,
+    refusals: &mut Refusals,
     command: &Command,
 ) -> Option<Result<Reply, Memory>>
     requires is_open { IsOpen job.old (F.past folder.old) }
@@ -28,21 +31,24 @@ pub fn carry_out_save<F: Folder, H: BuildHasher>(
         IsSomeAnd (event_of (file_of chain tables.now) job.old command.now) (λ outcome.
         Effect outcome (published (file_of chain tables.now) job.old command.now) answer job.new
         (F.past folder.old) (F.past folder.new) (F.faults folder.old) (F.faults folder.new)))) }
+    ensures noted { IfSome result (λ done. IfOk done (λ answer.
+        refusals.new ≡ noted (refusal_now tables.now) command.now answer refusals.old)) }
     ensures any_moment { Always (F.past folder.old) (F.past folder.new)
         (AtMost (published (file_of chain tables.now) job.old command.now)) }
     ensures is_open { IsOpen job.new (F.past folder.new) }
     ensures still { ¬ IsEvent job.old command.now → folder.new ≡ folder.old }
     ensures err { IfSome result (λ done.
-        OnErr done ((folder.new ≡ folder.old) × (job.new ≡ job.old))) }
+        OnErr done ((folder.new ≡ folder.old) × (job.new ≡ job.old)
+        × (refusals.new ≡ refusals.old))) }
     ensures none { result ≡ None → (event_of (file_of chain tables.now) job.old command.now ≡ None)
-        × (folder.new ≡ folder.old) × (job.new ≡ job.old) }
+        × (folder.new ≡ folder.old) × (job.new ≡ job.old) × (refusals.new ≡ refusals.old) }
     ensures never_falls { F.faults folder.old ≤ F.faults folder.new }
 {
     match command {
-        Command::Save => Some(save(alloc, folder, tables, chain, job)),
-        Command::SaveBegin => Some(begin(alloc, folder, tables, chain, job)),
+        Command::Save => Some(save(alloc, folder, tables, chain, job, refusals)),
+        Command::SaveBegin => Some(begin(alloc, folder, tables, chain, job, refusals)),
         Command::SaveStep { count } => Some(Ok(step_line(folder, job, *count))),
-        Command::SaveEnd => Some(Ok(end_line(folder, job))),
+        Command::SaveEnd => Some(Ok(end_line(folder, job, refusals))),
         _ => None,
     }
 }

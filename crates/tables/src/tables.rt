@@ -388,6 +388,7 @@ impl<'a, H: BuildHasher> Tables<'a, H> {
         ensures found { IfOk result (λ snap. snap ≡ snapshot_of self.now) }
         ensures restart { IfOk result (λ snap. restored snap self.now.places ≡ restart self.now) }
         ensures no_duplicate { IfOk result (λ snap. duplicate snap ≡ None) }
+        ensures sound { IsSound self.now }
         ensures steps { steps.new
             ≤ steps.old + 3 * length self.now.order + NEW_BUCKETS * SLOTS }
     {

@@ -96,6 +96,7 @@ pub use asmap_vm::CodeFault;
 pub use ban_list::{BanFault, BanReply};
 pub use limiter_crate::Asked;
 pub use net_addr::Net as Network;
+pub use node_check::Refusal;
 pub use peer_open::{MAX_OUTBOUND, MAX_TRIES, Verdict};
 pub use peer_rec::{Counts, Good, Resolved};
 pub use peers_file::{Chain, FileFault, RecordCause, Which};

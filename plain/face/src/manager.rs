@@ -7,7 +7,7 @@ use crate::message::copied;
 use crate::words::{Words, fill};
 use crate::{
     AddError, Added, Address, Asmap, Chain, Counts, Entry, Form, Good, Memory, MessageError,
-    Networks, Peer, Pick, Record, Resolved, SelectError,
+    Networks, Peer, Pick, Record, Refusal, Resolved, SelectError,
 };
 use host_io::DirFolder;
 use picking::Picked;
@@ -119,6 +119,25 @@ impl AddrMan {
     /// ```
     pub fn to_bytes(&self, chain: Chain) -> Result<Vec<u8>, Memory> {
         copied(node_face::write(Global, &self.tables, chain)?.items())
+    }
+
+    /// Returns why a node of Bitcoin Core does not start with the file of [`AddrMan::to_bytes`] or
+    /// [`AddrMan::save`], or `None` if it does.
+    ///
+    /// # Errors
+    ///
+    /// There is no memory for a copy of the records.
+    ///
+    /// ```
+    /// use addrman::{AddrMan, Refusal};
+    ///
+    /// assert_eq!(AddrMan::with_key([7; 32], None)?.why_refused()?, None);
+    /// let zeros = AddrMan::with_key([0; 32], None)?;
+    /// assert_eq!(zeros.why_refused()?, Some(Refusal::ZeroKey));
+    /// # Ok::<(), Box<dyn std::error::Error>>(())
+    /// ```
+    pub fn why_refused(&self) -> Result<Option<Refusal>, Memory> {
+        Ok(node_check::why_refused(&node_calls::snapshot(&self.tables)?))
     }
 
     /// Makes the tables that the `peers.dat` of a folder keeps, or returns `None` if there is no

@@ -1,7 +1,8 @@
-use Rattle.std.proofs.Common.{◌∙◌, arith, refl, sym, subst}
+use Rattle.std.proofs.Common.{◌≡◌, ◌∙◌, None, arith, refl, sym, subst}
 use Rattle.host_io.specs.Outside.{outside}
 use Rattle.addrman_run.specs.Replay.{NotOpened, Replayed, ReplayOutcome}
-use Rattle.addrman_run.proofs.Replays.{replayed, rises, starts}
+use Rattle.addrman_run.specs.Warnings.{ReplayTells, ReplayTold}
+use Rattle.addrman_run.proofs.Replays.{not_run, replayed, rises, starts, told}
 use Rattle.addrman_run.proofs.Seen.{by_status, no_disk, read_counted, write_counted}
 use Rattle.addrman_run.proofs.replay.replay.Goals as goal
 
@@ -30,3 +31,21 @@ returns-clause-disk g c = (
   ),
   λ is. absurd (no_disk c.run_log.result (sym c.status_of.ensures ∙ is)),
 )
+
+pub returns-in-Err-clause-told : goal.returns-in-Err-clause-told
+returns-in-Err-clause-told g c =
+    let old = outside g.L.Source g.F.Folder g.K.Sink c.args.log.now c.args.folder.now c.args.out.now in
+    let new = outside g.L.Source g.F.Folder g.K.Sink c.args.log.now c.open_folder.new.folder c.args.out.now in
+    not_run (ReplayTold c.args.key c.args.kind old new c.args.refusal.now) (λ answer. c.args.refusal.now ≡ None) c.args.key c.args.kind.chain
+    (g.F.Folder.past c.args.folder.now) c.in-Err.status c.in-Err.ensures.cause c.requires
+
+pub returns-clause-told : goal.returns-clause-told
+returns-clause-told g c =
+    let old = outside g.L.Source g.F.Folder g.K.Sink c.args.log.now c.args.folder.now c.args.out.now in
+    let new = outside g.L.Source g.F.Folder g.K.Sink c.run_log.new.log c.run_log.new.world c.run_log.new.out in
+    subst (ReplayTells c.args.key c.args.kind old new c.refusal.result) (sym c.status_of.ensures)
+    (by_status (ReplayTold c.args.key c.args.kind old new c.refusal.result) (λ answer. c.refusal.result ≡ None) c.run_log.result (λ settled.
+    told g.F.Folder.past g.F.Folder.faults c.args.key c.args.kind c.in-Ok.tables c.make-session.result old new c.open_folder.new.folder c.run_log.new.world c.run_log.result
+    c.in-Ok.ensures.found (starts c.args.kind.chain c.in-Ok.tables c.make-session.result c.open.result c.make-session.ensures c.open.ensures)
+    c.in-Ok.ensures.small c.open_folder.ensures.same c.open_folder.ensures.disk.0 refl refl c.run_log.new.state c.refusal.result c.refusal.ensures
+    (c.run_log.ensures.settled settled)))

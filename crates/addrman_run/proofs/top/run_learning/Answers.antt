@@ -2,6 +2,7 @@ use Rattle.std.proofs.Common.{refl, rules, subst, sym}
 use Rattle.host_io.specs.Outside.{outside}
 use Rattle.addrman_run.specs.Outcome.{Ends}
 use Rattle.addrman_run.specs.Untouched.{AsksNoFolder, ReadsNoLog}
+use Rattle.addrman_run.specs.Warnings.{Warns}
 use Rattle.addrman_run.proofs.Asked.{asks_something, not_read, same_request}
 use Rattle.addrman_run.proofs.Completing.{complete}
 use Rattle.addrman_run.proofs.top.run_learning.Goals as goal
@@ -47,3 +48,14 @@ returns-clause-outcome g c = λ request asks.
 
 pub returns-clause-complete : goal.returns-clause-complete
 returns-clause-complete g c = λ request asks. complete request _ _ _ (returns-clause-outcome g c request asks) c.carry_out.ensures.cause
+
+pub returns-in_default-clause-warning : goal.returns-in_default-clause-warning
+returns-in_default-clause-warning g c = λ request asks.
+    absurd (not_read c.read_request.result request (search rules) (c.read_request.ensures.only request asks))
+
+pub returns-clause-warning : goal.returns-clause-warning
+returns-clause-warning g c = λ request asks.
+    let old = outside g.L.Source g.F.Folder g.K.Sink c.args.log.now c.args.folder.now c.args.out.now in
+    let new = outside g.L.Source g.F.Folder g.K.Sink c.carry_out.new.log c.carry_out.new.folder c.carry_out.new.out in
+    let same = same_request c.read_request.result c.in-Some.request request c.in-Some.is (c.read_request.ensures.only request asks) in
+    subst (λ r. Warns r old new c.carry_out.new.refusal c.carry_out.result) same c.carry_out.ensures.warning

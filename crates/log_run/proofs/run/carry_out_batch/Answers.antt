@@ -24,7 +24,7 @@ returns-in-Err-clause-batch g c =
     batch_stops g.S.LineSteps.step g.S.LineSteps.has_fault c.args.reader.now c.loop-alloc.reader c.waiting_line.new.self c.args.state.now c.loop-alloc.state c.args.world.now c.loop-alloc.world
     c.args.text.now.items c.loop-alloc.text.items c.args.line.now c.loop-alloc.line c.loop-alloc.invariant.batch c.waiting_line.ensures.same c.carry_out.new.self c.carry_out.new.world c.in-Some.count c.in-Err.stop
     c.requires.keeps c.in-Some.ensures.found
-    (λ f is. let h = c.in-Err.ensures.fault f (stop_is c.in-Err.stop (stop.Fault f) is) in (subst (λ l. g.S.LineSteps.has_fault l f) c.line.ensures h.0, h.1))
+    (λ f is. let h = c.in-Err.ensures.fault f (stop_is c.in-Err.stop (stop.Fault f) is) in (subst (λ l. g.S.LineSteps.has_fault l f) c.line.ensures h.0, h.1, h.2))
     (λ is. subst (λ l. WorldStops g.S.LineSteps.step c.loop-alloc.state c.loop-alloc.world l c.carry_out.new.world) c.line.ensures (c.in-Err.ensures.memory (stop_is c.in-Err.stop stop.Memory is)))
 
 pub loop-alloc-preserved : goal.loop-alloc-preserved

@@ -9,8 +9,8 @@ use Rattle.log_run.specs.declared.log_reader.LogFault.TheVariants as fault
 use Rattle.log_run.specs.declared.line_steps.Stop.{Stop}
 use Rattle.log_run.specs.declared.line_steps.Stop.TheVariants as stop
 use Rattle.log_run.specs.declared.sizes.TheConstants.{MAX_LOG}
-use Rattle.log_run.proofs.Batches.{at_batch_fault, at_batch_stop, fewer_wait, looped_batch, waits_within}
-use Rattle.log_run.proofs.Loops.{Looped, at_done, at_failed, at_long, at_memory, at_stop, at_too_long, fewer_left, fewer_waits, looped_start, takes_more, takes_read}
+use Rattle.log_run.proofs.Batches.{at_batch_fault, at_batch_stop, fewer_wait, looped_batch, to_batch_stop, waits_within}
+use Rattle.log_run.proofs.Loops.{Looped, at_done, at_failed, at_long, at_memory, at_stop, at_too_long, ends_with, fewer_left, fewer_waits, looped_start, takes_more, takes_read, to_stop}
 use Rattle.log_run.proofs.run.run_log.Goals as goal
 
 line_of : (next : Reading) (found : Option ℕ) (count : ℕ) → found ≡ Some count → IfSome found (λ n. IsLine next n) → IsLine next count
@@ -58,6 +58,10 @@ returns-in-Ok-None-clause-ran g c =
     at_done g.S.LineSteps.step g.S.LineSteps.has_fault (c.args.state.now, c.args.world.now) (g.L.Source.left c.args.log.now) (g.L.Source.left c.loop-count.log) (g.L.Source.left c.next_line.new.source) (g.K.Sink.written c.args.out.now) (g.K.Sink.written c.loop-count.out) c.loop-count.reader c.next_line.new.self c.loop-count.state c.loop-count.world c.loop-count.line
     c.loop-count.invariant.looped (record { read = c.next_line.ensures.read; still = c.next_line.ensures.still; end = c.next_line.ensures.end; within = c.next_line.ensures.within }) (ok_moves c.in-Ok-None.field-0 c.in-Ok-None.ensures.moved) (subst (λ o. IfNone o ((c.next_line.new.self.waiting ≡ []) × IsTrue c.next_line.new.self.is_ended)) c.in-Ok-None.field-0-is c.in-Ok-None.ensures.none)
 
+pub returns-in-Ok-None-clause-settled : goal.returns-in-Ok-None-clause-settled
+unfolding returns-in-Ok-None-clause-ran at_done ends_with
+returns-in-Ok-None-clause-settled g c = λ settled. record { ran_in = returns-in-Ok-None-clause-ran g c; same_state = refl }
+
 pub returns-in-Ok-None-clause-taken : goal.returns-in-Ok-None-clause-taken
 returns-in-Ok-None-clause-taken g c =
     takes_read g.S.LineSteps.step (c.args.state.now, c.args.world.now) (g.L.Source.left c.args.log.now) (g.L.Source.left c.loop-count.log) (g.L.Source.left c.next_line.new.source) (g.K.Sink.written c.args.out.now) (g.K.Sink.written c.loop-count.out) c.loop-count.reader c.next_line.new.self c.loop-count.state c.loop-count.world c.loop-count.line
@@ -67,6 +71,10 @@ pub returns-in-Err-Failed-clause-ran : goal.returns-in-Err-Failed-clause-ran
 returns-in-Err-Failed-clause-ran g c =
     at_failed g.S.LineSteps.step g.S.LineSteps.has_fault (c.args.state.now, c.args.world.now) (g.L.Source.left c.args.log.now) (g.L.Source.left c.loop-count.log) (g.L.Source.left c.next_line.new.source) (g.K.Sink.written c.args.out.now) (g.K.Sink.written c.loop-count.out) c.loop-count.reader c.next_line.new.self c.loop-count.state c.loop-count.world c.loop-count.line
     c.loop-count.invariant.looped (record { read = c.next_line.ensures.read; still = c.next_line.ensures.still; end = c.next_line.ensures.end; within = c.next_line.ensures.within }) (err_moves c.in-Err-Failed.field-0 fault.Failed c.in-Err-Failed.field-0-is failed_other c.in-Err-Failed.ensures.moved) (c.in-Err-Failed.ensures.failed (err_is c.in-Err-Failed.field-0 fault.Failed c.in-Err-Failed.field-0-is)).0
+
+pub returns-in-Err-Failed-clause-settled : goal.returns-in-Err-Failed-clause-settled
+unfolding returns-in-Err-Failed-clause-ran at_failed ends_with
+returns-in-Err-Failed-clause-settled g c = λ settled. record { ran_in = returns-in-Err-Failed-clause-ran g c; same_state = refl }
 
 pub returns-in-Err-Failed-clause-taken : goal.returns-in-Err-Failed-clause-taken
 returns-in-Err-Failed-clause-taken g c =
@@ -78,6 +86,10 @@ returns-in-Err-LineTooLong-clause-ran g c =
     at_long g.S.LineSteps.step g.S.LineSteps.has_fault (c.args.state.now, c.args.world.now) (g.L.Source.left c.args.log.now) (g.L.Source.left c.loop-count.log) (g.L.Source.left c.next_line.new.source) (g.K.Sink.written c.args.out.now) (g.K.Sink.written c.loop-count.out) c.loop-count.reader c.next_line.new.self c.loop-count.state c.loop-count.world c.loop-count.line
     c.loop-count.invariant.looped (record { read = c.next_line.ensures.read; still = c.next_line.ensures.still; end = c.next_line.ensures.end; within = c.next_line.ensures.within }) (err_moves c.in-Err-LineTooLong.field-0 fault.LineTooLong c.in-Err-LineTooLong.field-0-is long_other c.in-Err-LineTooLong.ensures.moved) (c.in-Err-LineTooLong.ensures.long (err_is c.in-Err-LineTooLong.field-0 fault.LineTooLong c.in-Err-LineTooLong.field-0-is))
 
+pub returns-in-Err-LineTooLong-clause-settled : goal.returns-in-Err-LineTooLong-clause-settled
+unfolding returns-in-Err-LineTooLong-clause-ran at_long ends_with
+returns-in-Err-LineTooLong-clause-settled g c = λ settled. record { ran_in = returns-in-Err-LineTooLong-clause-ran g c; same_state = refl }
+
 pub returns-in-Err-LineTooLong-clause-taken : goal.returns-in-Err-LineTooLong-clause-taken
 returns-in-Err-LineTooLong-clause-taken g c =
     takes_read g.S.LineSteps.step (c.args.state.now, c.args.world.now) (g.L.Source.left c.args.log.now) (g.L.Source.left c.loop-count.log) (g.L.Source.left c.next_line.new.source) (g.K.Sink.written c.args.out.now) (g.K.Sink.written c.loop-count.out) c.loop-count.reader c.next_line.new.self c.loop-count.state c.loop-count.world c.loop-count.line
@@ -87,6 +99,10 @@ pub returns-in-Err-LogTooLong-clause-ran : goal.returns-in-Err-LogTooLong-clause
 returns-in-Err-LogTooLong-clause-ran g c =
     at_too_long g.S.LineSteps.step g.S.LineSteps.has_fault (c.args.state.now, c.args.world.now) (g.L.Source.left c.args.log.now) (g.L.Source.left c.loop-count.log) (g.L.Source.left c.next_line.new.source) (g.K.Sink.written c.args.out.now) (g.K.Sink.written c.loop-count.out) c.loop-count.reader c.next_line.new.self c.loop-count.state c.loop-count.world c.loop-count.line
     c.loop-count.invariant.looped (record { read = c.next_line.ensures.read; still = c.next_line.ensures.still; end = c.next_line.ensures.end; within = c.next_line.ensures.within }) (c.in-Err-LogTooLong.ensures.more (err_is c.in-Err-LogTooLong.field-0 fault.LogTooLong c.in-Err-LogTooLong.field-0-is))
+
+pub returns-in-Err-LogTooLong-clause-settled : goal.returns-in-Err-LogTooLong-clause-settled
+unfolding returns-in-Err-LogTooLong-clause-ran at_too_long ends_with
+returns-in-Err-LogTooLong-clause-settled g c = λ settled. record { ran_in = returns-in-Err-LogTooLong-clause-ran g c; same_state = refl }
 
 pub returns-in-Err-LogTooLong-clause-taken : goal.returns-in-Err-LogTooLong-clause-taken
 returns-in-Err-LogTooLong-clause-taken g c =
@@ -115,6 +131,13 @@ returns-in-Err-clause-ran g c =
     (λ f is. let h = c.in-Err.ensures.fault f (stop_is c.in-Err.stop (stop.Fault f) is) in (subst (λ l. g.S.LineSteps.has_fault l f) c.line.ensures h.0, h.1))
     (λ is. subst (λ l. WorldStops g.S.LineSteps.step c.loop-count.state c.loop-count.world l c.carry_out.new.world) c.line.ensures (c.in-Err.ensures.memory (stop_is c.in-Err.stop stop.Memory is)))
     c.end_at.ensures.fault c.end_at.ensures.memory
+
+pub returns-in-Err-clause-settled : goal.returns-in-Err-clause-settled
+returns-in-Err-clause-settled g c = λ settled.
+    to_stop g.S.LineSteps.step g.S.LineSteps.has_fault (c.args.state.now, c.args.world.now) (g.L.Source.left c.args.log.now) (g.L.Source.left c.loop-count.log) (g.L.Source.left c.next_line.new.source) (g.K.Sink.written c.args.out.now) (g.K.Sink.written c.loop-count.out) c.loop-count.reader c.next_line.new.self c.loop-count.state c.carry_out.new.self c.loop-count.world c.carry_out.new.world c.loop-count.line c.in-Ok-Some.count c.in-Err.stop c.end_at.result
+    c.loop-count.invariant.looped (record { read = c.next_line.ensures.read; still = c.next_line.ensures.still; end = c.next_line.ensures.end; within = c.next_line.ensures.within }) (ok_moves c.in-Ok-Some.field-0 c.in-Ok-Some.ensures.moved) (line_of c.next_line.new.self c.in-Ok-Some.field-0 c.in-Ok-Some.count c.in-Ok-Some.field-0-is c.in-Ok-Some.ensures.found)
+    (λ f is. let h = c.in-Err.ensures.fault f (stop_is c.in-Err.stop (stop.Fault f) is) in (subst (λ l. g.S.LineSteps.has_fault l f) c.line.ensures h.0, h.1, h.2))
+    c.end_at.ensures.fault c.end_at.ensures.memory settled
 
 pub returns-in-Err-clause-taken : goal.returns-in-Err-clause-taken
 returns-in-Err-clause-taken g c =
@@ -156,6 +179,18 @@ returns-in-Some-clause-ran g c =
     batch
     (subst (Appended (g.K.Sink.written c.loop-count.out) (g.K.Sink.written c.write_all.new.sink)) c.as_slice.ensures.value c.in-Ok-write_all.ensures.all))
     (subst (StopsAt g.S.LineSteps.has_fault c.carry_out_waiting-stop.new.reader batch.state c.carry_out_waiting-stop.new.state) c.in-Some.is batch.ends) batch.same_world c.end_at-in-Some.ensures.fault c.end_at-in-Some.ensures.memory
+
+pub returns-in-Some-clause-settled : goal.returns-in-Some-clause-settled
+returns-in-Some-clause-settled g c = λ settled.
+    let batch = subst (λ t. Batch g.S.LineSteps.step g.S.LineSteps.has_fault c.advance.new.self c.carry_out_waiting-stop.new.reader c.carry_out.new.self c.carry_out_waiting-stop.new.state c.carry_out.new.world c.carry_out_waiting-stop.new.world t c.carry_out_waiting-stop.new.text.items (c.loop-count.line + 1) c.carry_out_waiting-stop.new.line c.carry_out_waiting-stop.result) (c.in-Ok.ensures.step.1 ∙ ap (λ x. x ++ c.in-Ok.ensures.step.0) c.clear.ensures.items) c.carry_out_waiting-stop.ensures.batch in
+    to_batch_stop g.S.LineSteps.step g.S.LineSteps.has_fault (c.args.state.now, c.args.world.now) (g.L.Source.left c.args.log.now) (g.L.Source.left c.next_line.new.source) (g.K.Sink.written c.args.out.now) (g.K.Sink.written c.write_all.new.sink) c.carry_out_waiting-stop.new.reader batch.state c.carry_out_waiting-stop.new.state c.carry_out.new.world c.carry_out_waiting-stop.new.world c.carry_out_waiting-stop.new.line c.in-Some.stop c.end_at-in-Some.result
+    (looped_batch g.S.LineSteps.step g.S.LineSteps.has_fault (c.args.state.now, c.args.world.now) (g.L.Source.left c.args.log.now) (g.L.Source.left c.next_line.new.source) (g.K.Sink.written c.args.out.now) (g.L.Source.left c.loop-count.log) (g.K.Sink.written c.loop-count.out) (g.K.Sink.written c.write_all.new.sink)
+    c.loop-count.reader c.next_line.new.self c.advance.new.self c.carry_out_waiting-stop.new.reader c.loop-count.state c.carry_out.new.self c.carry_out_waiting-stop.new.state c.loop-count.world c.carry_out.new.world c.carry_out_waiting-stop.new.world
+    c.loop-count.line c.in-Ok-Some.count (c.loop-count.line + 1) c.carry_out_waiting-stop.new.line
+    c.in-Ok.ensures.step.0 c.carry_out_waiting-stop.new.text.items c.carry_out_waiting-stop.result c.loop-count.invariant.looped (record { read = c.next_line.ensures.read; still = c.next_line.ensures.still; end = c.next_line.ensures.end; within = c.next_line.ensures.within }) (ok_moves c.in-Ok-Some.field-0 c.in-Ok-Some.ensures.moved) (line_of c.next_line.new.self c.in-Ok-Some.field-0 c.in-Ok-Some.count c.in-Ok-Some.field-0-is c.in-Ok-Some.ensures.found) (subst (λ l. g.S.LineSteps.step c.loop-count.state c.loop-count.world l c.in-Ok.ensures.step.0 c.carry_out.new.self c.carry_out.new.world) c.line.ensures c.in-Ok.ensures.step.2) c.advance.ensures refl
+    batch
+    (subst (Appended (g.K.Sink.written c.loop-count.out) (g.K.Sink.written c.write_all.new.sink)) c.as_slice.ensures.value c.in-Ok-write_all.ensures.all))
+    (subst (StopsAt g.S.LineSteps.has_fault c.carry_out_waiting-stop.new.reader batch.state c.carry_out_waiting-stop.new.state) c.in-Some.is batch.ends) batch.same_world c.end_at-in-Some.ensures.fault c.end_at-in-Some.ensures.memory settled
 
 pub returns-in-Some-clause-taken : goal.returns-in-Some-clause-taken
 returns-in-Some-clause-taken g c =

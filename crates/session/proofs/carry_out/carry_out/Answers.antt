@@ -1,11 +1,11 @@
-use Rattle.std.proofs.Common.{subst}
+use Rattle.std.proofs.Common.{◌≡◌, subst}
 use Rattle.std.specs.Prelude.{IfOk, IsSomeAnd}
-use Rattle.std.proofs.lemmas.Result.{IfOk-weaker}
 use Rattle.host_io.specs.Past.{Always}
-use Rattle.session.proofs.Effects.{carried}
+use Rattle.session.proofs.Effects.{both_ok, carried}
 use Rattle.session_saves.specs.Events.{event_of}
 use Rattle.session_saves.specs.Files.{file_of, published}
 use Rattle.session_saves.specs.Folders.{AtMost, Effect}
+use Rattle.session_saves.specs.Refusals.{noted, refusal_now}
 use Rattle.session.proofs.carry_out.carry_out.Goals as goal
 
 pub returns-in-Some-clause-step : goal.returns-in-Some-clause-step
@@ -13,9 +13,10 @@ returns-in-Some-clause-step g c =
     let P = g.F.Folder.past in
     let job = c.args.job.now in
     let saved = c.carry_out_save in
-    IfOk-weaker c.in-Some.done _ _
-    (λ answer effect. carried c.args.chain c.args.manager.now job saved.new.job c.args.command.now answer _
-    (P c.args.folder.now) (P saved.new.folder) _ _ effect)
+    both_ok c.in-Some.done
+    (λ answer noting effect. carried c.args.chain c.args.manager.now job saved.new.job c.args.command.now answer _
+    (P c.args.folder.now) (P saved.new.folder) _ _ c.args.refusals.now saved.new.refusals noting effect)
+    (subst (λ st. IfOk c.in-Some.done (λ answer. saved.new.refusals ≡ noted (refusal_now st) c.args.command.now answer c.args.refusals.now)) c.tables.ensures c.in-Some.ensures.noted)
     (subst (λ st. IfOk c.in-Some.done (λ answer. IsSomeAnd (event_of (file_of c.args.chain st) job c.args.command.now) (λ outcome.
     Effect outcome (published (file_of c.args.chain st) job c.args.command.now) answer saved.new.job (P c.args.folder.now) (P saved.new.folder)
     (g.F.Folder.faults c.args.folder.now) (g.F.Folder.faults saved.new.folder)))) c.tables.ensures c.in-Some.ensures.effect)

@@ -24,7 +24,7 @@ pub returns-in-Err-clause-fault : goal.returns-in-Err-clause-fault
 returns-in-Err-clause-fault g c = λ fault is.
     let told = c.of.ensures.fault fault (same_stop _ _ is) in
     let why = c.in-Err.ensures.fault c.in-Err.fault refl told.1 in
-    (subst (HasCommandFault c.args.line.now) (sym told.0) why.0, why.2)
+    (subst (HasCommandFault c.args.line.now) (sym told.0) why.0, why.2, why.1)
 
 pub returns-in-Err-clause-memory : goal.returns-in-Err-clause-memory
 returns-in-Err-clause-memory g c = λ is.
