@@ -2,12 +2,17 @@
 //! go in, an exit code and lines for standard error come out.
 //!
 //! Proved: the functions are safe and return. An `Ended` has the exit code of the status that it
-//! was made of, and reports it (`code`).
+//! was made of, and reports it (`code`). The lines for standard error are none, or begin with that
+//! of the status (`first` of `lines_of`).
 //!
 //! Tested only: that this is the status of `run`, or that a file which an option names is missing,
 //! or that standard input has no listing that can be read, and that its line is written and then
 //! those of `hints`, but for a run whose output nobody reads any more.
 #![tactic(auto)]
+
+ghost use Rattle.std.specs.Prelude.{◌≡◌, IfSome, string_bytes};
+ghost use Rattle.addrman_main.specs.Lines.{BeginsWithLine};
+ghost use Rattle.addrman_run.specs.Report.{status_text};
 
 mod ended;
 mod given;
@@ -61,11 +66,16 @@ fn list_of_commands(alloc: Global) -> String {
 
 /// Returns the line that says why the run ended and those after it; nothing if the run is done and
 /// all is well, if nobody reads the output's pipe any more, or if there is no memory for the line.
-pub fn lines_of(alloc: Global, status: &Status, facts: &Facts<'_>) -> String {
+#[tactic(auto, using(crate::proofs::FirstLines::line_then, crate::proofs::FirstLines::nothing))]
+pub fn lines_of(alloc: Global, status: &Status, facts: &Facts<'_>) -> String
+    ensures first { BeginsWithLine status.now (string_bytes result) }
+{
     if *status == Status::WriteFault && facts.is_reader_gone() {
         return String::new(alloc);
     }
-    let mut text = line_of(alloc, status);
+    let Some(mut text) = line_of(alloc, status) else {
+        return String::new(alloc);
+    };
     let after = if facts.words.is_empty() {
         list_of_commands(alloc)
     } else {
@@ -76,19 +86,21 @@ pub fn lines_of(alloc: Global, status: &Status, facts: &Facts<'_>) -> String {
     text
 }
 
-/// Returns the line of a status, or nothing if there is no memory for it.
-fn line_of(alloc: Global, status: &Status) -> String {
+/// Returns the line of a status, or `None` if there is no memory for it.
+fn line_of(alloc: Global, status: &Status) -> Option<String>
+    ensures { IfSome result (λ line. string_bytes line ≡ status_text status.now) }
+{
     let mut line = Vec::new(alloc);
     match status_line(status, &mut line) {
-        Ok(()) => String::from_utf8(line).unwrap_or(String::new(alloc)),
-        Err(_) => String::new(alloc),
+        Ok(()) => String::from_utf8(line).ok(),
+        Err(_) => None,
     }
 }
 
 /// Returns how the program ends if it cannot go to a folder.
 fn without_folder(alloc: Global, folder: &str, error: io::Error) -> Ended {
     let status = Status::DiskFault;
-    let mut text = line_of(alloc, &status);
+    let mut text = line_of(alloc, &status).unwrap_or(String::new(alloc));
     if let Ok(line) = format!(in alloc; "addrman: {folder} cannot be entered: {error}\n") {
         let _ = text.push_str(line.as_str());
     }

@@ -12,8 +12,9 @@ use Rattle.host_io.specs.Writing.{Appended, AppendedPart}
 use Rattle.host_io.specs.declared.name.Name.TheVariants as name
 use Rattle.host_io.proofs.Moments.{begun, joined}
 use Rattle.save_store.specs.Saves.{PublishesOrNot}
-use Rattle.addrman_run.specs.Bans.{IsListIn, RefusesBans, ReportsBans, Change, IsOldOrNewList, IsSaved, BansText}
-use Rattle.addrman_run.specs.Compile.{IsInPlace}
+use Rattle.addrman_run.specs.Bans.{IsListIn, RefusesBans, ReportsBans, Change, IsNewFile, IsSaved, BansText}
+use Rattle.addrman_run.specs.OneSave.{LeavesOldOrNew}
+use Rattle.addrman_run.proofs.OneSaves.{kept, old_or_new}
 use Rattle.addrman_run.specs.InFolder.{IsAbsent}
 use Rattle.addrman_run.specs.Inside.{IsLoaded, IsLoadFault, IsNoList, IsNoBans, IsMade, IsAnswer, AnswerEnds}
 use Rattle.addrman_run.specs.TextOut.{TextOut}
@@ -80,12 +81,6 @@ not_loaded_bans rule past status why = elim why [
 
 -- EVERY MOMENT
 
-unchanged : (rule : BanRule) (change : List Ban → Change) (past : Option Past) → Always past past (IsOldOrNewList rule change past)
-unchanged rule change past = begun (IsOldOrNewList rule change past) past (λ d. record { bans = λ found may. inl may; others = λ other t n found may. may })
-
-pub kept : (rule : BanRule) (change : List Ban → Change) (old new : Option Past) → new ≡ old → Always old new (IsOldOrNewList rule change old)
-kept rule change old new same = subst (λ past. Always old past (IsOldOrNewList rule change old)) (sym same) (unchanged rule change old)
-
 -- the file that was made is that of a list
 made_some : (rule : BanRule) (old : Option (List ℕ)) (o : Option (List Ban)) (text : List ℕ) → IsMade rule old o (Some text) → (list : List Ban) × (o ≡ Some list) × IsWritten rule old list text
 made_some rule old None text is = absurd (cc)
@@ -97,20 +92,13 @@ made_none rule old (Some list) is = absurd is
 
 pub at_each : (rule : BanRule) (change : List Ban → Change) (old mid new : Option Past) (line : List ℕ) (file before after : Option (List ℕ)) (status : Status) → mid ≡ old →
     IsAnswer rule change old line file → AnswerEnds line file mid new before after status →
-    ((bytes : List ℕ) → file ≡ Some bytes → Always mid new (PublishesOrNot name.BansTemp name.Bans bytes)) → Always old new (IsOldOrNewList rule change old)
-at_each rule change old mid new line None before after status same is ends always = kept rule change old new (ends.0 ∙ same)
+    ((bytes : List ℕ) → file ≡ Some bytes → Always mid new (PublishesOrNot name.BansTemp name.Bans bytes)) → Always old new (LeavesOldOrNew name.BansTemp name.Bans (IsNewFile rule change old))
+at_each rule change old mid new line None before after status same is ends always =
+    kept name.BansTemp name.Bans (IsNewFile rule change old) old new (ends.0 ∙ same)
 at_each rule change old mid new line (Some bytes) before after status same is ends always =
     let made = made_some rule is.0 (change is.1).saved bytes is.4 in
-    joined (IsOldOrNewList rule change old) (PublishesOrNot name.BansTemp name.Bans bytes) (IsOldOrNewList rule change old) old old new (unchanged rule change old)
-    (subst (λ past. Always past new (PublishesOrNot name.BansTemp name.Bans bytes)) same (always bytes refl))
-    (λ start d p. p)
-    (λ start d e first p. record {
-      bans = λ found may. elim (p.at found may) [
-        | inl was ↦ first.bans found was
-        | inr now ↦ inr (bytes, (is.0, is.1, made.0, is.2, made.1, made.2), now)
-      ];
-      others = λ other t n found may. first.others other t n found (p.others other t n found may);
-    })
+    old_or_new name.BansTemp name.Bans (IsNewFile rule change old) old mid new bytes same
+    (is.0, is.1, made.0, is.2, made.1, made.2) (always bytes refl)
 
 -- EACH STATUS
 
@@ -142,7 +130,7 @@ ended rule change old mid new line None before after status same is ends =
 ended rule change old mid new line (Some bytes) before after status same is ends =
     let made = made_some rule is.0 (change is.1).saved bytes is.4 in
     elim ends [
-      | inl failed ↦ subst (BansText rule change old new before after) (sym failed.0) (inr (is.1, made.0, (is.0, is.2), made.1), failed.1)
+      | inl failed ↦ subst (BansText rule change old new before after) (sym failed.0) (inr (bytes, is.0, is.1, made.0, is.2, made.1, made.2), failed.1)
       | inr done ↦
           lines rule change old new line before after status is.0 is.1 is.2 is.3
           (subst (λ o. IsSaved rule is.0 o old new) (sym made.1) (bytes, made.2, done.0)) done.1

@@ -1,11 +1,15 @@
 -- What a replay has done, from what its run over the log says.
 use Rattle.std.proofs.Common.{◌≡◌, ◌≤◌, ℕ, List, [], ◌∷◌, refl, sym, ap, ◌∙◌, subst, inl, inr, arith}
 use Rattle.std.specs.Prelude.{Option, Some, None}
+use Rattle.host_io.specs.Calls.{IsSaveOf, OnlyCalls}
 use Rattle.host_io.specs.Faults.{RoseBy}
 use Rattle.host_io.specs.Lines.{lines_of}
 use Rattle.host_io.specs.Outside.{Outside}
 use Rattle.host_io.specs.Past.{Always, Past}
 use Rattle.host_io.specs.Reading.{TakesAtMost}
+use Rattle.host_io.specs.declared.call.Action.{Action}
+use Rattle.host_io.specs.declared.name.Name.TheVariants as name
+use Rattle.host_io.proofs.Asking.{joined, none}
 use Rattle.asmap_vm.specs.Asmap.{Asmap}
 use Rattle.log_lines.specs.Spelling.{HasCommandFault}
 use Rattle.log_run.specs.Run.{Run, Streams, last_reply}
@@ -41,10 +45,10 @@ use Rattle.addrman_run.specs.Log.{streams_of}
 use Rattle.addrman_run.specs.Replay.{IsUntouched, Replayed, at_start}
 use Rattle.addrman_run.proofs.Seen.{ran_as}
 
-module _ {F : Type 0} (past : F → Option Past) (faults : F → ℕ) where
+module _ {F : Type 0} (past : F → Option Past) (faults : F → ℕ) (calls : F → Option (List Action)) where
   -- a run of a session and a folder
   abbrev pub RunIn : session.SessionState → F → List (List ℕ) → List ℕ → session.SessionState → F → Type 0
-  RunIn s w lines text t v = Run (both (SessionStep past faults)) (s, w) lines text (t, v)
+  RunIn s w lines text t v = Run (both (SessionStep past faults calls)) (s, w) lines text (t, v)
 
   -- the history of such a run, and what it keeps
   pub record Followed (s : session.SessionState) (w : F) (before : List Ended) (lines : List (List ℕ)) (text : List ℕ) (t : session.SessionState) (v : F)
@@ -52,7 +56,7 @@ module _ {F : Type 0} (past : F → Option Past) (faults : F → ℕ) where
     pub ended : List Ended
     pub runs : Run HistoryStep (history s before) lines text (history t ended)
     pub last : (none : List ℕ) → last_reply HistoryStep (history s before) lines text (history t ended) none runs
-        ≡ last_reply (both (SessionStep past faults)) (s, w) lines text (t, v) none run
+        ≡ last_reply (both (SessionStep past faults calls)) (s, w) lines text (t, v) none run
     pub kept : IsKept t ended old (past v) f (faults v)
 
   pub follow : (lines : List (List ℕ)) (text : List ℕ) (s t : session.SessionState) (w v : F) (ended : List Ended) (old : Option Past) (f : ℕ)
@@ -121,7 +125,7 @@ opening_of : (key : Option (List ℕ)) (kind : FileKind) (past : Option Past) (m
 opening_of key kind past map st places (from_file snap is_in no_duplicate is) = keeps_at_opening snap places (file-below kind.chain is_in.0 snap is_in.2)
 opening_of key kind past map st places (from_key given absent is_key is) = tt
 
-module _ {F : Type 0} (past : F → Option Past) (faults : F → ℕ) where
+module _ {F : Type 0} (past : F → Option Past) (faults : F → ℕ) (calls : F → Option (List Action)) where
   later_rose : (n f g h : ℕ) → f ≤ g → RoseBy n g h → RoseBy n f h
   later_rose n f g h le (inl r) = inl (omega (arith, le, r))
   later_rose n f g h le (inr (full, inl rose)) = inr (full, inl (omega (arith, le, rose)))
@@ -130,14 +134,14 @@ module _ {F : Type 0} (past : F → Option Past) (faults : F → ℕ) where
   replayed_from : (key : Option (List ℕ)) (kind : FileKind) (tables : State) (old new : Outside) (w v : F) (how : LogEnd)
       → Opened key kind old.past tables → tables.next_number ≤ ALL_SLOTS → past w ≡ old.past → old.folder_faults ≤ faults w
       → new.past ≡ past v → new.folder_faults ≡ faults v
-      → RanIn (SessionStep past faults) HasCommandFault (at_start kind.chain tables, w) (streams_of old) (streams_of new) v how
+      → RanIn (SessionStep past faults calls) HasCommandFault (at_start kind.chain tables, w) (streams_of old) (streams_of new) v how
       → Replayed key kind old new how
   replayed_from key kind tables old new w v how opened few same_past earlier ends_past ends_faults r =
       let start = at_start kind.chain tables in
       let map = opened.map in
       let opens = opened.opens in
       let o = begun_with key kind old.past map tables opens opened.sound few in
-      let h = follow past faults r.ran.carried r.ran.replies start r.ran.now.0 w r.ran.now.1 [] (past w) (faults w) r.ran.runs
+      let h = follow past faults calls r.ran.carried r.ran.replies start r.ran.now.0 w r.ran.now.1 [] (past w) (faults w) r.ran.runs
       (kept_start start (past w) (faults w) refl) in
       let k = h.kept in
       let last = history r.ran.now.0 h.ended in
@@ -146,7 +150,7 @@ module _ {F : Type 0} (past : F → Option Past) (faults : F → ℕ) where
       record {
         tables = tables;
         opened = opened;
-        ran = ran_as (both (SessionStep past faults)) HistoryStep HasCommandFault (start, w) (fresh start) (streams_of old) (streams_of new) how r.ran last h.runs (h.last []);
+        ran = ran_as (both (SessionStep past faults calls)) HistoryStep HasCommandFault (start, w) (fresh start) (streams_of old) (streams_of new) how r.ran last h.runs (h.last []);
         fixed = λ lines text a b its other. (one_run (fresh start) a b lines text text [] [] its other refl).1;
         at_exit = subst (λ p. Now (AtExit last) p new.past) same_past (subst (Now (AtExit last) (past w)) (sym now_past) k.exit);
         since_entry = subst (λ p. Always p new.past (SinceEntry last)) same_past (subst (λ p. Always (past w) p (SinceEntry last)) (sym now_past) k.since);
@@ -167,19 +171,33 @@ module _ {F : Type 0} (past : F → Option Past) (faults : F → ℕ) where
       → Opened key kind old.past tables → start ≡ at_start kind.chain tables
       → tables.next_number ≤ ALL_SLOTS → past w ≡ old.past → old.folder_faults ≤ faults w
       → new.past ≡ past v → new.folder_faults ≡ faults v
-      → RanIn (SessionStep past faults) HasCommandFault (start, w) (streams_of old) (streams_of new) v how
+      → RanIn (SessionStep past faults calls) HasCommandFault (start, w) (streams_of old) (streams_of new) v how
       → Replayed key kind old new how
   replayed key kind tables start old new w v how opened begins few same_past earlier ends_past ends_faults r =
       replayed_from key kind tables old new w v how opened few same_past earlier ends_past ends_faults
-      (subst (λ s. RanIn (SessionStep past faults) HasCommandFault (s, w) (streams_of old) (streams_of new) v how) begins r)
+      (subst (λ s. RanIn (SessionStep past faults calls) HasCommandFault (s, w) (streams_of old) (streams_of new) v how) begins r)
 
-  rises_by : (lines : List (List ℕ)) (text : List ℕ) (s t : session.SessionState) (w v : F) → Run (both (SessionStep past faults)) (s, w) lines text (t, v) → faults w ≤ faults v
+  rises_by : (lines : List (List ℕ)) (text : List ℕ) (s t : session.SessionState) (w v : F) → Run (both (SessionStep past faults calls)) (s, w) lines text (t, v) → faults w ≤ faults v
   rises_by [] text s t w v run = omega (arith, ap (λ p. faults p.1) run.1)
   rises_by (line ∷ lines) text s t w v run = omega (arith, run.4.2, rises_by lines run.1 run.2.0 t run.2.1 v run.5)
 
+  saves_by : (lines : List (List ℕ)) (text : List ℕ) (s t : session.SessionState) (w v : F) → Run (both (SessionStep past faults calls)) (s, w) lines text (t, v)
+      → OnlyCalls (IsSaveOf name.PeersTemp name.Peers) (calls w) (calls v)
+  saves_by [] text s t w v run =
+      subst (λ p. OnlyCalls (IsSaveOf name.PeersTemp name.Peers) (calls w) (calls p.1)) (sym run.1) (none (IsSaveOf name.PeersTemp name.Peers) (calls w))
+  saves_by (line ∷ lines) text s t w v run =
+      joined (IsSaveOf name.PeersTemp name.Peers) (calls w) (calls run.2.1) (calls v) run.4.3 (saves_by lines run.1 run.2.0 t run.2.1 v run.5)
+
+  -- only calls of saves are made
+  pub saves : (start : session.SessionState) (old new : Streams) (w v : F) (how : LogEnd)
+      → RanIn (SessionStep past faults calls) HasCommandFault (start, w) old new v how → OnlyCalls (IsSaveOf name.PeersTemp name.Peers) (calls w) (calls v)
+  saves start old new w v how r =
+      subst (λ world. OnlyCalls (IsSaveOf name.PeersTemp name.Peers) (calls w) (calls world)) (sym r.same_world)
+      (saves_by r.ran.carried r.ran.replies start r.ran.now.0 w r.ran.now.1 r.ran.runs)
+
   -- the folder's count of faults does not fall
   pub rises : (start : session.SessionState) (old new : Streams) (w v : F) (how : LogEnd)
-      → RanIn (SessionStep past faults) HasCommandFault (start, w) old new v how → faults w ≤ faults v
+      → RanIn (SessionStep past faults calls) HasCommandFault (start, w) old new v how → faults w ≤ faults v
   rises start old new w v how r =
       omega (
         arith,

@@ -15,9 +15,8 @@ use Rattle.raw_file.specs.declared.fault.ListingFault.TheVariants as fault
 use Rattle.raw_read.specs.Raw.{HasMemberFault}
 use Rattle.raw_read.specs.declared.raw.RawFault.TheVariants as raw
 use Rattle.raw_read.specs.declared.read.TheConstants.{MAX_TEXT}
-use Rattle.save_store.specs.Saves.{PublishesOrNot}
 use Rattle.addrman_run.specs.Asmaps.{IsNoMap}
-use Rattle.addrman_run.specs.FromRaw.{FromRawOutcome, IsNewPeers, IsOldOrNewPeers, RefusesListing, SavesNothing, from_raw_text}
+use Rattle.addrman_run.specs.FromRaw.{FromRawOutcome, IsNewPeers, RefusesListing, SavesNothing, from_raw_text}
 use Rattle.addrman_run.specs.Inside.{IsListedFile, IsNoInput, IsNotListed, IsSumIn, SaveEnds}
 use Rattle.addrman_run.specs.Opening.{HasMap}
 use Rattle.addrman_run.specs.Replay.{IsUntouched}
@@ -47,30 +46,6 @@ new_peers key kind past before after sum text file line of_map input is = (
   },
   is.4,
 )
-
--- EVERY MOMENT
-
-module _ (key : List ℕ) (kind : FileKind) (old : Option Past) (before after : Option (List ℕ)) where
-  unchanged : Always old old (IsOldOrNewPeers key kind old before after)
-  unchanged = begun (IsOldOrNewPeers key kind old before after) old (λ d. record { peers = λ found may. inl may; others = λ other t n found may. may })
-
-  pub kept : (new : Option Past) → new ≡ old → Always old new (IsOldOrNewPeers key kind old before after)
-  kept new same = subst (λ past. Always old past (IsOldOrNewPeers key kind old before after)) (sym same) unchanged
-
-  -- after the loading, which changes nothing, the file was saved
-  pub old_or_new : (mid new : Option Past) (snap : Snapshot) (file : List ℕ) → mid ≡ old → IsNewPeers key kind old before after snap file →
-      Always mid new (PublishesOrNot name.PeersTemp name.Peers file) → Always old new (IsOldOrNewPeers key kind old before after)
-  old_or_new mid new snap file same is always =
-      joined (IsOldOrNewPeers key kind old before after) (PublishesOrNot name.PeersTemp name.Peers file) (IsOldOrNewPeers key kind old before after) old old new unchanged
-      (subst (λ past. Always past new (PublishesOrNot name.PeersTemp name.Peers file)) same always)
-      (λ start d p. p)
-      (λ start d e first p. record {
-        peers = λ found may. elim (p.at found may) [
-          | inl was ↦ first.peers found was
-          | inr now ↦ inr (snap, file, is, now)
-        ];
-        others = λ other t n found may. first.others other t n found (p.others other t n found may);
-      })
 
 -- EACH STATUS
 
@@ -116,9 +91,9 @@ module _ (key : List ℕ) (kind : FileKind) (old new : Outside) where
 
   -- the file was saved, or the folder failed
   pub saved : (snap : Snapshot) (file line : List ℕ) (status : Status) → IsNewPeers key kind old.past old.left new.left snap file → line ≡ from_raw_text snap file →
-      SaveEnds name.Peers file line new.past old.written new.written status → FromRawOutcome key kind old new status
+      SaveEnds name.PeersTemp name.Peers file line new.past old.written new.written status → FromRawOutcome key kind old new status
   saved snap file line status is text ends = elim ends [
-    | inl failed ↦ subst (FromRawOutcome key kind old new) (sym failed.0) (inr (snap, file, is), failed.1)
+    | inl failed ↦ subst (FromRawOutcome key kind old new) (sym failed.0) (inr (file, snap, is), failed.1)
     | inr done ↦ elim done.1 [
       | inl whole ↦ subst (FromRawOutcome key kind old new) (sym whole.0) (snap, file, is, done.0, subst (Appended old.written new.written) text whole.1)
       | inr part ↦ subst (FromRawOutcome key kind old new) (sym part.0) (snap, file, is, done.0, subst (AppendedPart old.written new.written) text part.1)

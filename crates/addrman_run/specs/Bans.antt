@@ -1,6 +1,6 @@
 -- What the commands on banlist.json write and save, and how they end. The rule says whether the
 -- list is read and written as Bitcoin Core does.
-use Rattle.std.specs.Prelude.{◌≡◌, ◌≢◌, ◌⊎◌, ℕ, Bool, true, false, List, [], ◌++◌, Option, Some, None, find, is_some, codes, decimal}
+use Rattle.std.specs.Prelude.{◌≡◌, ℕ, Bool, true, false, List, [], ◌++◌, Option, Some, None, find, is_some, codes, decimal}
 use Rattle.ban_list.specs.BanFile.{IsListFile, HasListFault}
 use Rattle.ban_list.specs.Bans.{after_ban_by, listed, without_ban, stops}
 use Rattle.ban_list.specs.NewFile.{IsWritten}
@@ -13,18 +13,14 @@ use Rattle.ban_list.specs.declared.fault.BanFault.TheVariants.{TooLarge}
 use Rattle.ban_list.specs.declared.read_file.TheConstants.{MAX_FILE}
 use Rattle.ban_list.specs.declared.ban.BanRule.{BanRule}
 use Rattle.ban_list.specs.declared.subnet.Subnet.{Subnet}
-use Rattle.host_io.specs.Disk.{Disk, MayHave}
 use Rattle.host_io.specs.Outside.{Outside}
 use Rattle.host_io.specs.Past.{Past, Always}
-use Rattle.host_io.specs.PerName.{under}
 use Rattle.host_io.specs.Writing.{Appended, AppendedPart}
-use Rattle.host_io.specs.declared.name.Name.{Name}
 use Rattle.host_io.specs.declared.name.Name.TheVariants as name
 use Rattle.net_addr.specs.Address.{Address}
 use Rattle.node_json.specs.Bans.{bans_json}
 use Rattle.node_json.specs.Value.{IsJsonText}
-use Rattle.save_store.specs.Saves.{NoMore}
-use Rattle.addrman_run.specs.Compile.{IsInPlace}
+use Rattle.addrman_run.specs.OneSave.{IsInPlace, LeavesOldOrNew, SavesOnly}
 use Rattle.addrman_run.specs.InFolder.{IsAbsent, IsFileIn, IsTooLarge}
 use Rattle.addrman_run.specs.Log.{SameLog}
 use Rattle.addrman_run.specs.TextOut.{TextEnds}
@@ -114,22 +110,12 @@ IsNewFile rule change past text =
     (file : Option (List ℕ)) × (old : List Ban) × (new : List Ban) × IsListIn rule past file old
     × ((change old).saved ≡ Some new) × IsWritten rule file new text
 
--- The disk of a moment beside the one at the start: a crash leaves in banlist.json what it could
--- leave there at the start, or the whole file of the new list; and at each other name but
--- banlist.tmp nothing that it could not leave at the start.
-pub record IsOldOrNewList (rule : BanRule) (change : List Ban → Change) (past : Option Past)
-    (start disk : Disk) : Type 0 where
-  pub bans : (found : Option (List ℕ)) → MayHave (under disk name.Bans) found →
-      MayHave (under start name.Bans) found
-      ⊎ ((text : List ℕ) × IsNewFile rule change past text × (found ≡ Some text))
-  pub others : (other : Name) → other ≢ name.BansTemp → other ≢ name.Bans → NoMore start disk other
-
 -- the new list is in its place, or if there is none, the folder was not changed at all
 abbrev pub IsSaved : BanRule → Option (List ℕ) → Option (List Ban) → Option Past → Option Past →
     Type 0
 IsSaved rule file None old new = new ≡ old
 IsSaved rule file (Some bans) old new =
-    (text : List ℕ) × IsWritten rule file bans text × IsInPlace name.Bans text new
+    (text : List ℕ) × IsWritten rule file bans text × IsInPlace name.BansTemp name.Bans text new
 
 -- the list was changed, if there was something to save, and the line was written, or a part of it
 abbrev pub Changes : BanRule → (List Ban → Change) →
@@ -139,13 +125,6 @@ Changes rule change Writes old new before after =
     (file : Option (List ℕ)) × (bans : List Ban) × IsListIn rule old file bans
     × IsSaved rule file (change bans).saved old new × Writes before after (change bans).line
 
--- the folder was not changed, or there is a new list to be saved
-abbrev pub SavesOnlyNew : BanRule → (List Ban → Change) → Option Past → Option Past → Type 0
-SavesOnlyNew rule change old new =
-    (new ≡ old)
-    ⊎ ((bans : List Ban) × (list : List Ban) × AreBansIn rule old bans
-    × ((change bans).saved ≡ Some list))
-
 -- What is saved and written for each status, from the past of the folder at the start and at the
 -- end, and what the output had before and after.
 abbrev pub BansText : BanRule → (List Ban → Change) → Option Past → Option Past →
@@ -154,7 +133,7 @@ BansText rule change old new before after Done = Changes rule change Appended ol
 BansText rule change old new before after WriteFault =
     Changes rule change AppendedPart old new before after
 BansText rule change old new before after DiskFault =
-    SavesOnlyNew rule change old new × (after ≡ before)
+    SavesOnly (IsNewFile rule change old) old new × (after ≡ before)
 BansText rule change old new before after Memory = (new ≡ old) × (after ≡ before)
 BansText rule change old new before after other =
     ReportsBans rule old other × (new ≡ old) × (after ≡ before)
@@ -162,5 +141,6 @@ BansText rule change old new before after other =
 pub record BansEnds (rule : BanRule) (change : List Ban → Change) (old new : Outside)
     (status : Status) : Type 0 where
   pub text : BansText rule change old.past new.past old.written new.written status
-  pub any_moment : Always old.past new.past (IsOldOrNewList rule change old.past)
+  pub any_moment : Always old.past new.past
+      (LeavesOldOrNew name.BansTemp name.Bans (IsNewFile rule change old.past))
   pub left : SameLog old new

@@ -1,14 +1,11 @@
 -- What `from-raw` writes and saves for a listing of the tables, and how it ends.
-use Rattle.std.specs.Prelude.{◌≡◌, ◌≢◌, ◌⊎◌, ℕ, ◌+◌, List, ◌++◌, length, Option, Some, codes, decimal}
+use Rattle.std.specs.Prelude.{◌≡◌, ◌≢◌, ℕ, ◌+◌, List, ◌++◌, length, Option, codes, decimal}
 use Rattle.arguments.specs.declared.file_kind.FileKind.{FileKind}
 use Rattle.asmap_vm.specs.Asmap.{Asmap}
-use Rattle.host_io.specs.Disk.{Disk, MayHave}
 use Rattle.host_io.specs.Outside.{Outside}
 use Rattle.host_io.specs.Past.{Past, Always}
-use Rattle.host_io.specs.PerName.{under}
 use Rattle.host_io.specs.Reading.{TakesAtMost}
 use Rattle.host_io.specs.Writing.{Appended, AppendedPart}
-use Rattle.host_io.specs.declared.name.Name.{Name}
 use Rattle.host_io.specs.declared.name.Name.TheVariants as name
 use Rattle.peer_rec.specs.Snapshot.{Snapshot}
 use Rattle.peers_file.specs.Layout.{IsFile}
@@ -20,9 +17,8 @@ use Rattle.raw_file.specs.declared.fault.ListingFault.{ListingFault}
 use Rattle.raw_file.specs.declared.fault.ListingFault.TheVariants as fault
 use Rattle.raw_read.specs.declared.raw.RawFault.TheVariants as raw
 use Rattle.raw_read.specs.declared.read.TheConstants.{MAX_TEXT}
-use Rattle.save_store.specs.Saves.{NoMore}
 use Rattle.addrman_run.specs.Asmaps.{IsMapIn, RefusesAsmap}
-use Rattle.addrman_run.specs.Compile.{IsInPlace}
+use Rattle.addrman_run.specs.OneSave.{IsInPlace, LeavesOldOrNew, SavesOnly}
 use Rattle.addrman_run.specs.Opening.{HasMap}
 use Rattle.addrman_run.specs.Replay.{IsUntouched}
 use Rattle.addrman_run.specs.declared.status.Status.{Status}
@@ -59,17 +55,11 @@ RefusesListing before after why =
 
 -- HOW IT ENDS
 
--- The disk of a moment beside the one at the start: a crash leaves in peers.dat what it could leave
--- there at the start, or the whole file of the listing; and at each other name but peers.tmp
--- nothing that it could not leave at the start.
-pub record IsOldOrNewPeers (key : List ℕ) (kind : FileKind) (past : Option Past)
-    (before after : Option (List ℕ)) (start disk : Disk) : Type 0 where
-  pub peers : (found : Option (List ℕ)) → MayHave (under disk name.Peers) found →
-      MayHave (under start name.Peers) found
-      ⊎ ((snap : Snapshot) × (file : List ℕ)
-      × IsNewPeers key kind past before after snap file × (found ≡ Some file))
-  pub others : (other : Name) → other ≢ name.PeersTemp → other ≢ name.Peers →
-      NoMore start disk other
+-- the file of the listing that the input was
+abbrev pub IsPeersFile : List ℕ → FileKind → Option Past → Option (List ℕ) → Option (List ℕ) →
+    List ℕ → Type 0
+IsPeersFile key kind past before after file =
+    (snap : Snapshot) × IsNewPeers key kind past before after snap file
 
 -- the file of the listing is in its place, and the line about it was written, or a part
 abbrev pub SavesListing : (Option (List ℕ) → Option (List ℕ) → List ℕ → Type 0) →
@@ -77,14 +67,8 @@ abbrev pub SavesListing : (Option (List ℕ) → Option (List ℕ) → List ℕ 
 SavesListing Writes key kind old new =
     (snap : Snapshot) × (file : List ℕ)
     × IsNewPeers key kind old.past old.left new.left snap file
-    × IsInPlace name.Peers file new.past × Writes old.written new.written (from_raw_text snap file)
-
--- the folder was not changed, or there is a listing to be saved
-abbrev pub SavesOnlyListing : List ℕ → FileKind → Outside → Outside → Type 0
-SavesOnlyListing key kind old new =
-    (new.past ≡ old.past)
-    ⊎ ((snap : Snapshot) × (file : List ℕ)
-    × IsNewPeers key kind old.past old.left new.left snap file)
+    × IsInPlace name.PeersTemp name.Peers file new.past
+    × Writes old.written new.written (from_raw_text snap file)
 
 -- nothing was written, and the folder is as it was
 abbrev pub SavesNothing : Outside → Outside → Type 0
@@ -100,7 +84,8 @@ FromRawOutcome key kind old new (RawRefused why) =
     HasMap old.past × RefusesListing old.left new.left why × SavesNothing old new
 FromRawOutcome key kind old new ReadFault = HasMap old.past × SavesNothing old new
 FromRawOutcome key kind old new DiskFault =
-    SavesOnlyListing key kind old new × (new.written ≡ old.written)
+    SavesOnly (IsPeersFile key kind old.past old.left new.left) old.past new.past
+    × (new.written ≡ old.written)
 FromRawOutcome key kind old new Memory = SavesNothing old new
 FromRawOutcome key kind old new other = ⊥
 
@@ -109,5 +94,6 @@ pub record FromRawEnds (key : List ℕ) (kind : FileKind) (old new : Outside)
     (answer : Status) : Type 0 where
   pub outcome : FromRawOutcome key kind old new answer
   pub any_moment : Always old.past new.past
-      (IsOldOrNewPeers key kind old.past old.left new.left)
+      (LeavesOldOrNew name.PeersTemp name.Peers
+      (IsPeersFile key kind old.past old.left new.left))
   pub taken : TakesAtMost old.left new.left (MAX_TEXT + 1)

@@ -24,7 +24,7 @@ use Rattle.raw_file.specs.declared.fault.ListingFault.TheVariants.{Text}
 use Rattle.raw_read.specs.Raw.{HasRawFault}
 use Rattle.addrman_run.specs.Bans.{IsListIn, RefusesBans, Change}
 use Rattle.addrman_run.specs.Diff.{AsksRecords, RefusesRecords, ReportsDiff}
-use Rattle.addrman_run.specs.Compile.{IsCompiled, IsInPlace, compile_text}
+use Rattle.addrman_run.specs.Compile.{IsCompiled, compile_text}
 use Rattle.addrman_run.specs.FromRaw.{from_raw_text}
 use Rattle.addrman_run.specs.InFolder.{IsFileIn, IsAbsent, IsTooLarge}
 use Rattle.addrman_run.specs.Listing.{ReportsListing}
@@ -36,6 +36,7 @@ use Rattle.addrman_run.specs.declared.tables_fault.TablesFault.{TablesFault}
 use Rattle.addrman_run.specs.declared.tables_fault.TablesFault.TheVariants.{Rows}
 use Rattle.addrman_run.specs.declared.peers_fault.PeersFault.TheVariants.{Duplicate, File}
 use Rattle.addrman_run.specs.Asmaps.{IsMapIn}
+use Rattle.addrman_run.specs.OneSave.{IsInPlace}
 use Rattle.addrman_run.specs.Opening.{ReportsTables, places_of, tables_of}
 use Rattle.log_run.specs.Run.{Run}
 use Rattle.log_run.specs.declared.run.LogEnd.{LogEnd}
@@ -186,10 +187,11 @@ IsNotCompiled text status =
 
 -- how saving a file and then writing the line about it ends: the folder failed, or the file is in
 -- its place, and the line was written, or a part of it
-abbrev pub SaveEnds : Name → List ℕ → List ℕ → Option Past →
+abbrev pub SaveEnds : Name → Name → List ℕ → List ℕ → Option Past →
     Option (List ℕ) → Option (List ℕ) → Status → Type 0
-SaveEnds name file line past old new status =
-    ((status ≡ DiskFault) × (new ≡ old)) ⊎ (IsInPlace name file past × LineEnds line old new status)
+SaveEnds temp name file line past old new status =
+    ((status ≡ DiskFault) × (new ≡ old))
+    ⊎ (IsInPlace temp name file past × LineEnds line old new status)
 
 -- the status of a run over the log, by how it ends
 abbrev pub status_of : LogEnd → Status
@@ -258,7 +260,7 @@ abbrev pub AnswerEnds : List ℕ → Option (List ℕ) → Option Past → Optio
     Option (List ℕ) → Option (List ℕ) → Status → Type 0
 AnswerEnds line None before after old new status = (after ≡ before) × LineEnds line old new status
 AnswerEnds line (Some file) before after old new status =
-    SaveEnds name.Bans file line after old new status
+    SaveEnds name.BansTemp name.Bans file line after old new status
 
 -- a line of a generated log was carried out, and its reply appended
 abbrev pub Replied : session.SessionState → List ℕ → List ℕ → List ℕ → session.SessionState → Type 0

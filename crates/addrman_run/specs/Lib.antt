@@ -1,4 +1,5 @@
 pub mod Untouched
+pub mod MayAsk
 pub mod InFolder
 pub mod Asmaps
 pub mod Tables
@@ -18,6 +19,7 @@ pub mod AddressLines
 pub mod Check
 pub mod Decompile
 pub mod Diff
+pub mod OneSave
 pub mod Compile
 pub mod Bans
 pub mod FromRaw

@@ -1,4 +1,6 @@
 ghost use Rattle.std.specs.Prelude.{◌≡◌, ◌++◌, OnOk};
+ghost use Rattle.host_io.specs.Calls.{IsReadOf, OnlyCalls};
+ghost use Rattle.host_io.specs.declared.name.Name.TheVariants as name;
 ghost use Rattle.log_run.specs.Counts.{IsCounted};
 ghost use Rattle.placing.specs.Inside.{map_of};
 ghost use Rattle.placing.specs.Places.{asn};
@@ -119,6 +121,7 @@ pub(crate) fn write_address<F: Folder, K: Sink>(
     ensures disk { IsCounted Status.DiskFault (F.faults folder.old) (F.faults folder.new) result }
     ensures write { IsCounted Status.WriteFault (K.faults out.old) (K.faults out.new) result }
     ensures same { F.past folder.new ≡ F.past folder.old }
+    ensures asks { OnlyCalls (IsReadOf name.Asmap) (F.calls folder.old) (F.calls folder.new) }
 {
     let mut asmap = None;
     let map = match open_map(alloc, &mut asmap, folder, learned) {

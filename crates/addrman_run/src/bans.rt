@@ -1,4 +1,6 @@
 ghost use Rattle.std.specs.Prelude.{◌≡◌, ℕ, List, Err, Some, IfOk, IfErr, ⊤};
+ghost use Rattle.host_io.specs.Calls.{IsReadOf, IsSaveOf, OnlyCalls};
+ghost use Rattle.addrman_run.specs.MayAsk.{OrSave};
 ghost use Rattle.ban_list.specs.BanFile.{IsListFile};
 ghost use Rattle.ban_list.specs.Bans.{ban_of};
 ghost use Rattle.ban_list.specs.Subnet.{IsProper};
@@ -7,7 +9,8 @@ ghost use Rattle.host_io.specs.declared.name.Name.TheVariants as name;
 ghost use Rattle.save_store.specs.Saves.{PublishesOrNot};
 ghost use Rattle.ban_list.specs.declared.ban.Ban.{Ban};
 ghost use Rattle.ban_list.specs.declared.ban.BanRule.{BanRule};
-ghost use Rattle.addrman_run.specs.Bans.{BansText, Change, IsBansText, IsListIn, IsOldOrNewList, ReportsBans, ban_change, banned_change, found_text, reply_text, saved_by, unban_change};
+ghost use Rattle.addrman_run.specs.Bans.{BansText, Change, IsBansText, IsListIn, IsNewFile, ReportsBans, ban_change, banned_change, found_text, reply_text, saved_by, unban_change};
+ghost use Rattle.addrman_run.specs.OneSave.{LeavesOldOrNew};
 ghost use Rattle.addrman_run.specs.Inside.{AnswerEnds, IsMade, IsNoBans, IsNoList, saved_if};
 ghost use Rattle.addrman_run.specs.TextOut.{TextOut};
 ghost use Rattle.log_run.specs.Counts.{IsCounted};
@@ -87,6 +90,7 @@ fn load_bans<F: Folder>(
     ensures disk { IsCounted (Err Status.DiskFault)
         (F.faults folder.old) (F.faults folder.new) result }
     ensures same { F.past folder.new ≡ F.past folder.old }
+    ensures asks { OnlyCalls (IsReadOf name.Bans) (F.calls folder.old) (F.calls folder.new) }
 {
     match load_input(alloc, Input::Bans, folder) {
         Ok(Some(bytes)) => read_list(alloc, rule, bytes, learned),
@@ -272,6 +276,7 @@ fn output_of<C: BanCommand>(
 }
 
 /// Saves the file of an output, if it has one, and then writes its line.
+#[tactic(auto, using(host_io::proofs::Asking::none))]
 fn write_output<F: Folder, K: Sink>(output: &Output, folder: &mut F, out: &mut K) -> Status
     ensures ends { AnswerEnds output.now.line.items output.now.file (F.past folder.old)
         (F.past folder.new) (K.written out.old) (K.written out.new) result }
@@ -280,6 +285,8 @@ fn write_output<F: Folder, K: Sink>(output: &Output, folder: &mut F, out: &mut K
         (PublishesOrNot name.BansTemp name.Bans file) }
     ensures disk { IsCounted Status.DiskFault (F.faults folder.old) (F.faults folder.new) result }
     ensures write { IsCounted Status.WriteFault (K.faults out.old) (K.faults out.new) result }
+    ensures asks { OnlyCalls (IsSaveOf name.BansTemp name.Bans)
+        (F.calls folder.old) (F.calls folder.new) }
 {
     match &output.file {
         Some(file) => {
@@ -292,6 +299,7 @@ fn write_output<F: Folder, K: Sink>(output: &Output, folder: &mut F, out: &mut K
 
 /// Carries out a command on the list of the folder's banlist.json, saves the list if it is a new
 /// one, and then writes the answer.
+#[tactic(auto, using(crate::proofs::Calling::before_save, crate::proofs::Calling::then_save))]
 pub(crate) fn change_bans<F: Folder, K: Sink, C: BanCommand>(
     alloc: Global,
     rule: BanRule,
@@ -304,9 +312,12 @@ pub(crate) fn change_bans<F: Folder, K: Sink, C: BanCommand>(
     ensures text { BansText rule (C.change rule command.now) (F.past folder.old)
         (F.past folder.new) (K.written out.old) (K.written out.new) result }
     ensures any_moment { Always (F.past folder.old) (F.past folder.new)
-        (IsOldOrNewList rule (C.change rule command.now) (F.past folder.old)) }
+        (LeavesOldOrNew name.BansTemp name.Bans
+        (IsNewFile rule (C.change rule command.now) (F.past folder.old))) }
     ensures disk { IsCounted Status.DiskFault (F.faults folder.old) (F.faults folder.new) result }
     ensures write { IsCounted Status.WriteFault (K.faults out.old) (K.faults out.new) result }
+    ensures asks { OnlyCalls (OrSave (IsReadOf name.Bans) name.BansTemp name.Bans)
+        (F.calls folder.old) (F.calls folder.new) }
 {
     let listed = match load_bans(alloc, rule, folder, learned) {
         Ok(listed) => listed,
@@ -332,6 +343,7 @@ pub(crate) fn list_bans<F: Folder, K: Sink>(
     ensures disk { IsCounted Status.DiskFault (F.faults folder.old) (F.faults folder.new) result }
     ensures write { IsCounted Status.WriteFault (K.faults out.old) (K.faults out.new) result }
     ensures same { F.past folder.new ≡ F.past folder.old }
+    ensures asks { OnlyCalls (IsReadOf name.Bans) (F.calls folder.old) (F.calls folder.new) }
 {
     let listed = match load_bans(alloc, rule, folder, learned) {
         Ok(listed) => listed,

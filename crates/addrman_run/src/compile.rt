@@ -1,12 +1,15 @@
 ghost use Rattle.std.specs.Prelude.{◌≡◌, ◌≤◌, ◌++◌, List, Option, codes, decimal, length, IfOk, IfErr};
+ghost use Rattle.host_io.specs.Calls.{IsReadOf, OnlyCalls};
+ghost use Rattle.addrman_run.specs.MayAsk.{OrSave};
 ghost use Rattle.asmap_vm.specs.Code.{code};
 ghost use Rattle.asmap_compile.specs.Compiled.{compiled};
 ghost use Rattle.host_io.specs.Past.{Past, Always};
 ghost use Rattle.host_io.specs.declared.name.Name.TheVariants as name;
 ghost use Rattle.prefix_table.specs.declared.read.TheConstants.{MAX_TEXT};
 ghost use Rattle.prefix_table.specs.declared.rows.Row.{Row};
-ghost use Rattle.addrman_run.specs.Compile.{CompileText, IsOldOrNew, compile_text};
+ghost use Rattle.addrman_run.specs.Compile.{CompileText, IsNewMap, compile_text};
 ghost use Rattle.addrman_run.specs.InFolder.{ReportsAbsence};
+ghost use Rattle.addrman_run.specs.OneSave.{LeavesOldOrNew};
 ghost use Rattle.addrman_run.specs.Inside.{IsLoaded, IsNewAsmap, IsNotCompiled};
 ghost use Rattle.log_run.specs.Counts.{IsCounted};
 ghost use Rattle.addrman_run.specs.declared.input.Input.TheVariants as input;
@@ -80,6 +83,7 @@ fn new_asmap(alloc: Global, text: Bytes, learned: &mut Learned) -> Result<NewAsm
 }
 
 /// Compiles prefixes.txt into asmap.dat, and says how large the table and the file are.
+#[tactic(auto, using(crate::proofs::Calling::before_save, crate::proofs::Calling::then_save))]
 pub(crate) fn compile_table<F: Folder, K: Sink>(
     alloc: Global,
     folder: &mut F,
@@ -89,10 +93,12 @@ pub(crate) fn compile_table<F: Folder, K: Sink>(
     ensures text { CompileText (F.past folder.old) (F.past folder.new) (K.written out.old)
         (K.written out.new) result }
     ensures any_moment { Always (F.past folder.old) (F.past folder.new)
-        (IsOldOrNew (F.past folder.old)) }
+        (LeavesOldOrNew name.AsmapTemp name.Asmap (IsNewMap (F.past folder.old))) }
     ensures absent { ReportsAbsence name.Prefixes (F.past folder.old) result }
     ensures disk { IsCounted Status.DiskFault (F.faults folder.old) (F.faults folder.new) result }
     ensures write { IsCounted Status.WriteFault (K.faults out.old) (K.faults out.new) result }
+    ensures asks { OnlyCalls (OrSave (IsReadOf name.Prefixes) name.AsmapTemp name.Asmap)
+        (F.calls folder.old) (F.calls folder.new) }
 {
     let text = match load_present(alloc, Input::Prefixes, folder) {
         Ok(text) => text,

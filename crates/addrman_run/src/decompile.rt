@@ -1,4 +1,5 @@
 ghost use Rattle.std.specs.Prelude.{◌≡◌, ◌≢◌, ◌≤◌, Option, length};
+ghost use Rattle.host_io.specs.Calls.{IsReadOf, OnlyCalls};
 ghost use Rattle.bit_code.specs.declared.bits.TheConstants.{MAX_ASMAP};
 ghost use Rattle.host_io.specs.Past.{Past};
 ghost use Rattle.host_io.specs.declared.name.Name.TheVariants as name;
@@ -30,6 +31,7 @@ pub(crate) fn decompile<F: Folder, K: Sink>(
     ensures disk { IsCounted Status.DiskFault (F.faults folder.old) (F.faults folder.new) result }
     ensures write { IsCounted Status.WriteFault (K.faults out.old) (K.faults out.new) result }
     ensures same { F.past folder.new ≡ F.past folder.old }
+    ensures asks { OnlyCalls (IsReadOf name.Asmap) (F.calls folder.old) (F.calls folder.new) }
 {
     let bytes = match load_present(alloc, Input::Asmap, folder) {
         Ok(bytes) => bytes,

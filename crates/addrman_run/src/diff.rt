@@ -1,4 +1,6 @@
 ghost use Rattle.std.specs.Prelude.{◌≡◌, ◌⊎◌, ◌<◌, length, None, IfOk, IfErr, IfSome, Err, option_map};
+ghost use Rattle.host_io.specs.Calls.{OnlyCalls};
+ghost use Rattle.addrman_run.specs.MayAsk.{IsReadOfMaps};
 ghost use Rattle.asmap_vm.specs.Held.{tree_held};
 ghost use Rattle.host_io.specs.Past.{files_of};
 ghost use Rattle.host_io.specs.PerName.{under};
@@ -50,6 +52,7 @@ pub(crate) fn diff<F: Folder, K: Sink>(
     ensures disk { IsCounted Status.DiskFault (F.faults folder.old) (F.faults folder.new) result }
     ensures write { IsCounted Status.WriteFault (K.faults out.old) (K.faults out.new) result }
     ensures same { F.past folder.new ≡ F.past folder.old }
+    ensures asks { OnlyCalls (IsReadOfMaps peers) (F.calls folder.old) (F.calls folder.new) }
 {
     match text_of(alloc, peers, folder, learned) {
         Ok(text) => write_line(text.as_slice(), out),
@@ -58,6 +61,7 @@ pub(crate) fn diff<F: Folder, K: Sink>(
 }
 
 /// Returns the text about the files of the folder.
+#[tactic(auto, using(crate::proofs::Calling::of_old, crate::proofs::Calling::old_then))]
 fn text_of<F: Folder>(
     alloc: Global,
     peers: Option<Chain>,
@@ -72,6 +76,7 @@ fn text_of<F: Folder>(
     ensures disk { IsCounted (Err Status.DiskFault)
         (F.faults folder.old) (F.faults folder.new) result }
     ensures same { F.past folder.new ≡ F.past folder.old }
+    ensures asks { OnlyCalls (IsReadOfMaps peers) (F.calls folder.old) (F.calls folder.new) }
 {
     let bytes = match load_present(alloc, Input::AsmapOld, folder) {
         Ok(bytes) => bytes,
@@ -86,6 +91,7 @@ fn text_of<F: Folder>(
 }
 
 /// Returns the text about the files of the folder, whose asmap.old is accepted.
+#[tactic(auto, using(crate::proofs::Calling::of_new, crate::proofs::Calling::new_then))]
 fn text_from<F: Folder>(
     alloc: Global,
     peers: Option<Chain>,
@@ -99,6 +105,7 @@ fn text_from<F: Folder>(
     ensures disk { IsCounted (Err Status.DiskFault)
         (F.faults folder.old) (F.faults folder.new) result }
     ensures same { F.past folder.new ≡ F.past folder.old }
+    ensures asks { OnlyCalls (IsReadOfMaps peers) (F.calls folder.old) (F.calls folder.new) }
 {
     let bytes = match load_present(alloc, Input::Asmap, folder) {
         Ok(bytes) => bytes,
@@ -141,6 +148,7 @@ fn changes_text(alloc: Global, old: &Sane<'_>, new: &Sane<'_>) -> Result<Vec<u8>
 }
 
 /// Returns the lines about the records of peers.dat, a file of the chain; none without a chain.
+#[tactic(auto, using(host_io::proofs::Asking::none, crate::proofs::Calling::of_records))]
 fn records_text<F: Folder>(
     alloc: Global,
     peers: Option<Chain>,
@@ -155,6 +163,7 @@ fn records_text<F: Folder>(
     ensures disk { IsCounted (Err Status.DiskFault)
         (F.faults folder.old) (F.faults folder.new) result }
     ensures same { F.past folder.new ≡ F.past folder.old }
+    ensures asks { OnlyCalls (IsReadOfMaps peers) (F.calls folder.old) (F.calls folder.new) }
 {
     let Some(chain) = peers else {
         return Ok(Vec::new(alloc));

@@ -1,4 +1,5 @@
 ghost use Rattle.std.specs.Prelude.{◌≡◌, ◌≤◌, ℕ, List, Option, length, IfOk, Err};
+ghost use Rattle.host_io.specs.Calls.{IsReadOf, OnlyCalls};
 ghost use Rattle.anchors.specs.declared.fault.AnchorsFault.{AnchorsFault};
 ghost use Rattle.asmap_vm.specs.declared.fault.CodeFault.{CodeFault};
 ghost use Rattle.host_io.specs.Past.{Past};
@@ -80,6 +81,8 @@ pub(crate) fn write_file_line<F: Folder, K: Sink, C: FileLine>(
     ensures disk { IsCounted Status.DiskFault (F.faults folder.old) (F.faults folder.new) result }
     ensures write { IsCounted Status.WriteFault (K.faults out.old) (K.faults out.new) result }
     ensures same { F.past folder.new ≡ F.past folder.old }
+    ensures asks { OnlyCalls (IsReadOf (name_of (C.file command.now)))
+        (F.calls folder.old) (F.calls folder.new) }
 {
     let bytes = match load_present(alloc, command.input(), folder) {
         Ok(bytes) => bytes,

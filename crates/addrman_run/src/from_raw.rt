@@ -1,4 +1,7 @@
 ghost use Rattle.std.specs.Prelude.{◌≡◌, ◌+◌, ◌++◌, Err, IfOk, IfErr, codes, decimal};
+ghost use Rattle.host_io.specs.Calls.{IsReadOf, OnlyCalls};
+ghost use Rattle.addrman_run.specs.MayAsk.{OrSave};
+ghost use Rattle.host_io.specs.declared.name.Name.TheVariants as name;
 ghost use Rattle.host_io.specs.Outside.{outside};
 ghost use Rattle.host_io.specs.Past.{Always};
 ghost use Rattle.host_io.specs.Reading.{TakesAtMost};
@@ -6,7 +9,8 @@ ghost use Rattle.log_run.specs.Counts.{IsCounted};
 ghost use Rattle.raw_file.specs.Input.{IsInput};
 ghost use Rattle.raw_read.specs.declared.read.TheConstants.{MAX_TEXT};
 ghost use Rattle.addrman_run.specs.Asmaps.{IsNoMap};
-ghost use Rattle.addrman_run.specs.FromRaw.{FromRawOutcome, IsOldOrNewPeers, from_raw_text};
+ghost use Rattle.addrman_run.specs.FromRaw.{FromRawOutcome, IsPeersFile, from_raw_text};
+ghost use Rattle.addrman_run.specs.OneSave.{LeavesOldOrNew};
 ghost use Rattle.addrman_run.specs.Inside.{IsListedFile, IsNoInput, IsNotListed, IsSumIn};
 
 use crate::opening::open_map;
@@ -41,6 +45,7 @@ fn load_sum<F: Folder>(
     ensures disk { IsCounted (Err Status.DiskFault)
         (F.faults folder.old) (F.faults folder.new) result }
     ensures same { F.past folder.new ≡ F.past folder.old }
+    ensures asks { OnlyCalls (IsReadOf name.Asmap) (F.calls folder.old) (F.calls folder.new) }
 {
     let mut asmap = None;
     match open_map(alloc, &mut asmap, folder, learned) {
@@ -131,6 +136,7 @@ fn new_peers(
 
 /// Makes peers.dat of the log, a listing of the tables, under a key and with the checksum of the
 /// folder's asmap, and says how large the tables and the file are.
+#[tactic(auto, using(crate::proofs::Calling::before_save, crate::proofs::Calling::then_save))]
 pub(crate) fn from_raw<L: Source, F: Folder, K: Sink>(
     alloc: Global,
     key: [u8; 32],
@@ -144,11 +150,14 @@ pub(crate) fn from_raw<L: Source, F: Folder, K: Sink>(
         (outside L.Source F.Folder K.Sink log.old folder.old out.old)
         (outside L.Source F.Folder K.Sink log.new folder.new out.new) result }
     ensures any_moment { Always (F.past folder.old) (F.past folder.new)
-        (IsOldOrNewPeers key kind (F.past folder.old) (L.left log.old) (L.left log.new)) }
+        (LeavesOldOrNew name.PeersTemp name.Peers
+        (IsPeersFile key kind (F.past folder.old) (L.left log.old) (L.left log.new))) }
     ensures taken { TakesAtMost (L.left log.old) (L.left log.new) (MAX_TEXT + 1) }
     ensures read { IsCounted Status.ReadFault (L.faults log.old) (L.faults log.new) result }
     ensures write { IsCounted Status.WriteFault (K.faults out.old) (K.faults out.new) result }
     ensures disk { IsCounted Status.DiskFault (F.faults folder.old) (F.faults folder.new) result }
+    ensures asks { OnlyCalls (OrSave (IsReadOf name.Asmap) name.PeersTemp name.Peers)
+        (F.calls folder.old) (F.calls folder.new) }
 {
     let sum = match load_sum(alloc, kind.rule, folder, learned) {
         Ok(sum) => sum,

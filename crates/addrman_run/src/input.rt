@@ -1,4 +1,5 @@
 ghost use Rattle.std.specs.Prelude.{◌≡◌, ◌⊎◌, Ok, Err, None, IfOk, IfSome, IfErr, MatchOption};
+ghost use Rattle.host_io.specs.Calls.{IsReadOf, OnlyCalls};
 ghost use Rattle.host_io.specs.Past.{files_of};
 ghost use Rattle.host_io.specs.PerName.{under};
 ghost use Rattle.log_run.specs.Counts.{IsCounted};
@@ -98,6 +99,7 @@ pub(crate) fn load_input<F: Folder>(
     ensures disk { IsCounted (Err Status.DiskFault)
         (F.faults folder.old) (F.faults folder.new) result }
     ensures same { F.past folder.new ≡ F.past folder.old }
+    ensures asks { OnlyCalls (IsReadOf (name_of input)) (F.calls folder.old) (F.calls folder.new) }
 {
     match load(alloc, folder, input.name(), input.max()) {
         Ok(loaded) => Ok(loaded),
@@ -121,6 +123,7 @@ pub(crate) fn load_present<F: Folder>(
     ensures disk { IsCounted (Err Status.DiskFault)
         (F.faults folder.old) (F.faults folder.new) result }
     ensures same { F.past folder.new ≡ F.past folder.old }
+    ensures asks { OnlyCalls (IsReadOf (name_of input)) (F.calls folder.old) (F.calls folder.new) }
 {
     match load_input(alloc, input, folder) {
         Ok(Some(bytes)) => Ok(bytes),

@@ -2,8 +2,9 @@ use ban_list::BanRule;
 use host_io::Bytes;
 use std::alloc::Global;
 
-/// How many bytes of peers.dat end with its key.
-const HEAD: usize = 38;
+/// How many bytes of peers.dat come before its key: the first bytes of the chain, the format and
+/// the compat byte.
+const HEAD: usize = 6;
 
 /// How the checksum of an asmap in peers.dat fits the asmap in use.
 #[derive(Clone, Copy, PartialEq, Eq)]
@@ -28,7 +29,10 @@ pub enum SumFit {
 pub struct Learned {
     /// The line of the log that is not carried out.
     pub(crate) line: Vec<u8>,
-    head: Vec<u8>,
+    /// The first bytes of the file that was read last, and how many they are. There is no room for
+    /// those of a key.
+    head: [u8; HEAD],
+    head_len: usize,
     /// The bytes of the text file that is refused.
     pub(crate) text: Option<Bytes>,
     pub(crate) passed_over: usize,
@@ -43,7 +47,8 @@ impl Learned {
     pub fn make(alloc: Global) -> Learned {
         Learned {
             line: Vec::new(alloc),
-            head: Vec::new(alloc),
+            head: [0; HEAD],
+            head_len: 0,
             text: None,
             passed_over: 0,
             ban_rule: BanRule::Labels,
@@ -58,10 +63,13 @@ impl Learned {
         self.line.as_slice()
     }
 
-    /// Returns the first bytes of the peers.dat or the asmap that was read: of peers.dat those up
-    /// to the end of its key.
+    /// Returns the first bytes of the peers.dat or the asmap that was read: of peers.dat those
+    /// before its key.
     pub fn head(&self) -> &[u8] {
-        self.head.as_slice()
+        match self.head.get(..self.head_len) {
+            Some(head) => head,
+            None => &self.head,
+        }
     }
 
     /// Returns the bytes of prefixes.txt, banlist.json or the listing, if it is refused.
@@ -104,8 +112,8 @@ impl Learned {
 
     /// Keeps the first bytes of a file.
     pub(crate) fn keep_head(&mut self, bytes: &[u8]) {
-        self.head.clear();
         let count = bytes.len().min(HEAD);
-        let _ = self.head.extend_from_slice(&bytes[..count]);
+        self.head[..count].copy_from_slice(&bytes[..count]);
+        self.head_len = count;
     }
 }

@@ -1,4 +1,6 @@
 ghost use Rattle.std.specs.Prelude.{◌≡◌, ◌⊎◌, Err, IfOk, IfErr, map};
+ghost use Rattle.host_io.specs.Calls.{OnlyCalls};
+ghost use Rattle.addrman_run.specs.MayAsk.{IsReadOfTables};
 ghost use Rattle.host_io.specs.declared.name.Name.TheVariants as name;
 ghost use Rattle.log_run.specs.Counts.{IsCounted};
 ghost use Rattle.placing.specs.Inside.{map_of};
@@ -38,6 +40,7 @@ fn view_under<'a>(alloc: Global, map: Option<Sane<'a>>, bytes: &[u8]) -> Result<
 
 /// Opens the view of the listing that the folder has in the place of peers.dat, under its asmap,
 /// whose bytes stay in `asmap`. The bytes of a listing that is refused are kept in `learned`.
+#[tactic(auto, using(crate::proofs::Calling::of_asmap, crate::proofs::Calling::of_both))]
 pub(crate) fn open_listing<'a, F: Folder>(
     alloc: Global,
     asmap: &'a mut Option<Bytes>,
@@ -52,6 +55,7 @@ pub(crate) fn open_listing<'a, F: Folder>(
     ensures disk { IsCounted (Err Status.DiskFault)
         (F.faults folder.old) (F.faults folder.new) result }
     ensures same { F.past folder.new ≡ F.past folder.old }
+    ensures asks { OnlyCalls IsReadOfTables (F.calls folder.old) (F.calls folder.new) }
 {
     let map = match open_map(alloc, asmap, folder, learned) {
         Ok(map) => map,

@@ -1,4 +1,5 @@
 ghost use Rattle.std.specs.Prelude.{◌≡◌, ◌+◌};
+ghost use Rattle.host_io.specs.Calls.{IsReadOf, OnlyCalls};
 ghost use Rattle.host_io.specs.Outside.{outside};
 ghost use Rattle.host_io.specs.Reading.{TakesAtMost};
 ghost use Rattle.host_io.specs.declared.name.Name.TheVariants as name;
@@ -83,6 +84,7 @@ pub(crate) fn lookup_lines<L: Source, F: Folder, K: Sink>(
     ensures write { IsCounted Status.WriteFault (K.faults out.old) (K.faults out.new) result }
     ensures disk { IsCounted Status.DiskFault (F.faults folder.old) (F.faults folder.new) result }
     ensures same { F.past folder.new ≡ F.past folder.old }
+    ensures asks { OnlyCalls (IsReadOf name.Asmap) (F.calls folder.old) (F.calls folder.new) }
 {
     let bytes = match load_present(alloc, Input::Asmap, folder) {
         Ok(bytes) => bytes,

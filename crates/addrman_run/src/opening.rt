@@ -1,4 +1,6 @@
 ghost use Rattle.std.specs.Prelude.{◌≡◌, ◌⊎◌, ◌≤◌, ℕ, List, None, Some, Ok, Err, IfOk, IfErr, IfSome, length};
+ghost use Rattle.host_io.specs.Calls.{IsReadOf, OnlyCalls};
+ghost use Rattle.addrman_run.specs.MayAsk.{IsReadOfTables};
 ghost use Rattle.asmap_vm.specs.Code.{Tree, IsSaneFile};
 ghost use Rattle.asmap_vm.specs.declared.fault.CodeFault.{CodeFault};
 ghost use Rattle.host_io.specs.Past.{files_of};
@@ -193,6 +195,7 @@ pub(crate) fn open_map<'a, F: Folder>(
     ensures disk { IsCounted (Err Status.DiskFault)
         (F.faults folder.old) (F.faults folder.new) result }
     ensures same { F.past folder.new ≡ F.past folder.old }
+    ensures asks { OnlyCalls (IsReadOf name.Asmap) (F.calls folder.old) (F.calls folder.new) }
 {
     *asmap = match load_input(alloc, Input::Asmap, folder) {
         Ok(bytes) => bytes,
@@ -210,6 +213,7 @@ pub(crate) fn open_map<'a, F: Folder>(
 /// Opens the tables that a replay or an opener begins with: those of the folder's peers.dat, or if
 /// it is absent, empty ones with the key. Either way they have the folder's asmap, whose bytes stay
 /// in `asmap`.
+#[tactic(auto, using(crate::proofs::Calling::of_asmap, crate::proofs::Calling::of_both))]
 pub(crate) fn open_folder<'a, F: Folder, H: BuildHasher + Drop>(
     alloc: Global,
     hasher: H,
@@ -227,6 +231,7 @@ pub(crate) fn open_folder<'a, F: Folder, H: BuildHasher + Drop>(
     ensures disk { IsCounted (Err Status.DiskFault)
         (F.faults folder.old) (F.faults folder.new) result }
     ensures same { F.past folder.new ≡ F.past folder.old }
+    ensures asks { OnlyCalls IsReadOfTables (F.calls folder.old) (F.calls folder.new) }
 {
     let map = match open_map(alloc, asmap, folder, learned) {
         Ok(map) => map,
@@ -255,6 +260,7 @@ pub(crate) fn open_peers<'a, F: Folder, H: BuildHasher + Drop>(
     ensures disk { IsCounted (Err Status.DiskFault)
         (F.faults folder.old) (F.faults folder.new) result }
     ensures same { F.past folder.new ≡ F.past folder.old }
+    ensures asks { OnlyCalls IsReadOfTables (F.calls folder.old) (F.calls folder.new) }
 {
     match open_folder(alloc, hasher, None, kind, asmap, folder, learned) {
         Ok(tables) => Ok(tables),

@@ -1,4 +1,5 @@
 ghost use Rattle.std.specs.Prelude.{◌≢◌};
+ghost use Rattle.host_io.specs.Calls.{IsSaveOf, OnlyCalls};
 ghost use Rattle.host_io.specs.Past.{Always};
 ghost use Rattle.save_store.specs.Saves.{PublishesOrNot};
 ghost use Rattle.addrman_run.specs.Inside.{LineEnds, SaveEnds};
@@ -21,7 +22,7 @@ pub(crate) fn write_line<K: Sink>(line: &[u8], out: &mut K) -> Status
 }
 
 /// Saves a file, by way of its temporary name, and then writes the line about it.
-#[tactic(auto, using(crate::proofs::Compiling::in_place))]
+#[tactic(auto, using(crate::proofs::OneSaves::in_place))]
 pub(crate) fn save_then_write<F: Folder, K: Sink>(
     temp: Name,
     name: Name,
@@ -31,12 +32,13 @@ pub(crate) fn save_then_write<F: Folder, K: Sink>(
     out: &mut K,
 ) -> Status
     requires { temp ≢ name }
-    ensures ends { SaveEnds name file.now line.now (F.past folder.new) (K.written out.old)
+    ensures ends { SaveEnds temp name file.now line.now (F.past folder.new) (K.written out.old)
         (K.written out.new) result }
     ensures any_moment { Always (F.past folder.old) (F.past folder.new)
         (PublishesOrNot temp name file.now) }
     ensures disk { IsCounted Status.DiskFault (F.faults folder.old) (F.faults folder.new) result }
     ensures write { IsCounted Status.WriteFault (K.faults out.old) (K.faults out.new) result }
+    ensures asks { OnlyCalls (IsSaveOf temp name) (F.calls folder.old) (F.calls folder.new) }
 {
     match save(folder, temp, name, file) {
         Ok(()) => write_line(line, out),

@@ -1,4 +1,6 @@
 ghost use Rattle.std.specs.Prelude.{◌≡◌, ◌≤◌, ◌++◌, All, IfOk, OnOk, length};
+ghost use Rattle.host_io.specs.Calls.{OnlyCalls};
+ghost use Rattle.addrman_run.specs.MayAsk.{IsReadOfTables};
 ghost use Rattle.std.specs.List.{flat_map};
 ghost use Rattle.arguments.specs.Table.{AreProperSets, IsProperRequest};
 ghost use Rattle.arguments.specs.declared.request.Request.TheVariants as request;
@@ -141,6 +143,7 @@ pub(crate) fn picture<F: Folder, K: Sink, H: BuildHasher + Drop>(
     ensures disk { IsCounted Status.DiskFault (F.faults folder.old) (F.faults folder.new) result }
     ensures write { IsCounted Status.WriteFault (K.faults out.old) (K.faults out.new) result }
     ensures same { F.past folder.new ≡ F.past folder.old }
+    ensures asks { OnlyCalls IsReadOfTables (F.calls folder.old) (F.calls folder.new) }
 {
     let chain = chain_of(from);
     let drawing = Drawing { colours, chain };

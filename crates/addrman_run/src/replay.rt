@@ -1,4 +1,7 @@
 ghost use Rattle.host_io.specs.Outside.{outside};
+ghost use Rattle.host_io.specs.Calls.{OnlyCalls};
+ghost use Rattle.addrman_run.specs.MayAsk.{IsReadOfTables, OrSave};
+ghost use Rattle.host_io.specs.declared.name.Name.TheVariants as name;
 ghost use Rattle.host_io.specs.Reading.{TakesAtMost};
 ghost use Rattle.std.specs.Prelude.{◌+◌};
 ghost use Rattle.log_run.specs.declared.sizes.TheConstants.{MAX_LOG};
@@ -18,6 +21,7 @@ use std::hash::BuildHasher;
 
 /// Carries out the lines of the log, from the tables of the folder's peers.dat, or if it is absent,
 /// from empty ones with the key. Either way they have the folder's asmap. Saves replace peers.dat.
+#[tactic(auto, using(crate::proofs::Calling::before_save))]
 pub(crate) fn replay<L: Source, F: Folder, K: Sink, H: BuildHasher + Drop>(
     alloc: Global,
     hasher: H,
@@ -35,6 +39,8 @@ pub(crate) fn replay<L: Source, F: Folder, K: Sink, H: BuildHasher + Drop>(
     ensures read { IsCounted Status.ReadFault (L.faults log.old) (L.faults log.new) result }
     ensures write { IsCounted Status.WriteFault (K.faults out.old) (K.faults out.new) result }
     ensures disk { IsCounted Status.DiskFault (F.faults folder.old) (F.faults folder.new) result }
+    ensures asks { OnlyCalls (OrSave IsReadOfTables name.PeersTemp name.Peers)
+        (F.calls folder.old) (F.calls folder.new) }
 {
     let mut asmap = None;
     let tables = match open_folder(alloc, hasher, key, kind, &mut asmap, folder, learned) {

@@ -1,4 +1,6 @@
 ghost use Rattle.std.specs.Prelude.{◌≡◌, ◌≢◌, ◌+◌, [], All, IfOk, true, false};
+ghost use Rattle.host_io.specs.Calls.{OnlyCalls};
+ghost use Rattle.addrman_run.specs.MayAsk.{IsReadOfTables};
 ghost use Rattle.host_io.specs.Outside.{outside};
 ghost use Rattle.host_io.specs.Reading.{TakesAtMost};
 ghost use Rattle.log_run.specs.Counts.{IsCounted};
@@ -228,6 +230,7 @@ fn write_opened<'a, L: Source, F: Folder, K: Sink, H: BuildHasher + Drop>(
     ensures write { IsCounted Status.WriteFault (K.faults out.old) (K.faults out.new) result }
     ensures disk { IsCounted Status.DiskFault (F.faults folder.old) (F.faults folder.new) result }
     ensures same { F.past folder.new ≡ F.past folder.old }
+    ensures asks { OnlyCalls IsReadOfTables (F.calls folder.old) (F.calls folder.new) }
 {
     let tables = match open_peers(alloc, Lent::of(hasher), kind, asmap, folder, learned) {
         Ok(tables) => tables,
@@ -256,6 +259,7 @@ pub(crate) fn risk_lines<L: Source, F: Folder, K: Sink, H: BuildHasher + Drop>(
     ensures write { IsCounted Status.WriteFault (K.faults out.old) (K.faults out.new) result }
     ensures disk { IsCounted Status.DiskFault (F.faults folder.old) (F.faults folder.new) result }
     ensures same { F.past folder.new ≡ F.past folder.old }
+    ensures asks { OnlyCalls IsReadOfTables (F.calls folder.old) (F.calls folder.new) }
 {
     let mut asmap = None;
     write_opened(alloc, &hasher, kind, &mut asmap, log, folder, out, learned)

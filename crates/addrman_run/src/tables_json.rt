@@ -1,4 +1,6 @@
 ghost use Rattle.std.specs.Prelude.{◌≡◌, IfOk};
+ghost use Rattle.host_io.specs.Calls.{OnlyCalls};
+ghost use Rattle.addrman_run.specs.MayAsk.{IsReadOfTables};
 ghost use Rattle.log_run.specs.Counts.{IsCounted};
 ghost use Rattle.node_json.specs.Raw.{raw_json};
 ghost use Rattle.node_json.specs.Value.{IsJsonText};
@@ -98,6 +100,7 @@ pub(crate) fn write_raw<F: Folder, K: Sink, H: BuildHasher + Drop>(
     ensures disk { IsCounted Status.DiskFault (F.faults folder.old) (F.faults folder.new) result }
     ensures write { IsCounted Status.WriteFault (K.faults out.old) (K.faults out.new) result }
     ensures same { F.past folder.new ≡ F.past folder.old }
+    ensures asks { OnlyCalls IsReadOfTables (F.calls folder.old) (F.calls folder.new) }
 {
     let mut asmap = None;
     write_opened(alloc, &hasher, kind, &mut asmap, folder, out, learned)
@@ -119,6 +122,7 @@ fn write_opened<'a, F: Folder, K: Sink, H: BuildHasher + Drop>(
     ensures disk { IsCounted Status.DiskFault (F.faults folder.old) (F.faults folder.new) result }
     ensures write { IsCounted Status.WriteFault (K.faults out.old) (K.faults out.new) result }
     ensures same { F.past folder.new ≡ F.past folder.old }
+    ensures asks { OnlyCalls IsReadOfTables (F.calls folder.old) (F.calls folder.new) }
 {
     let tables = match open_peers(alloc, Lent::of(hasher), kind, asmap, folder, learned) {
         Ok(tables) => tables,

@@ -1,4 +1,6 @@
 ghost use Rattle.std.specs.Prelude.{◌≡◌, ◌≢◌, map, string_bytes};
+ghost use Rattle.host_io.specs.Calls.{OnlyCalls};
+ghost use Rattle.addrman_run.specs.MayAsk.{MayAsk};
 ghost use Rattle.host_io.specs.Outside.{outside};
 ghost use Rattle.arguments.specs.Table.{Asks, IsProperRequest};
 ghost use Rattle.addrman_run.specs.Untouched.{AsksNoFolder, LeavesRest, ReadsNoLog, TellsUsage};
@@ -81,6 +83,8 @@ pub fn run<L: Source, F: Folder, K: Sink, H: BuildHasher + Drop>(
     ensures complete { (request : Request) → Asks (map string_bytes words.now) request →
         IsComplete request (outside L.Source F.Folder K.Sink log.old folder.old out.old)
         (outside L.Source F.Folder K.Sink log.new folder.new out.new) result }
+    ensures asks { (request : Request) → Asks (map string_bytes words.now) request →
+        OnlyCalls (MayAsk request) (F.calls folder.old) (F.calls folder.new) }
 {
     let mut learned = Learned::make(alloc);
     run_learning(alloc, hasher, words, log, folder, out, &mut learned)
@@ -107,6 +111,8 @@ pub fn run_learning<L: Source, F: Folder, K: Sink, H: BuildHasher + Drop>(
     ensures complete { (request : Request) → Asks (map string_bytes words.now) request →
         IsComplete request (outside L.Source F.Folder K.Sink log.old folder.old out.old)
         (outside L.Source F.Folder K.Sink log.new folder.new out.new) result }
+    ensures asks { (request : Request) → Asks (map string_bytes words.now) request →
+        OnlyCalls (MayAsk request) (F.calls folder.old) (F.calls folder.new) }
 {
     let Some(request) = read_request(alloc, words) else {
         return Status::Usage;
@@ -115,6 +121,7 @@ pub fn run_learning<L: Source, F: Folder, K: Sink, H: BuildHasher + Drop>(
 }
 
 /// Carries out what the arguments ask for.
+#[tactic(auto, using(host_io::proofs::Asking::none))]
 fn carry_out<L: Source, F: Folder, K: Sink, H: BuildHasher + Drop>(
     alloc: Global,
     hasher: H,
@@ -132,6 +139,7 @@ fn carry_out<L: Source, F: Folder, K: Sink, H: BuildHasher + Drop>(
         (outside L.Source F.Folder K.Sink log.new folder.new out.new) result }
     ensures outcome { Ends request (outside L.Source F.Folder K.Sink log.old folder.old out.old)
         (outside L.Source F.Folder K.Sink log.new folder.new out.new) result }
+    ensures asks { OnlyCalls (MayAsk request) (F.calls folder.old) (F.calls folder.new) }
 {
     match request {
         Request::Replay { key, kind } => replay(

@@ -1,4 +1,6 @@
 ghost use Rattle.std.specs.Prelude.{◌≡◌, ℕ, List, IfOk};
+ghost use Rattle.host_io.specs.Calls.{OnlyCalls};
+ghost use Rattle.addrman_run.specs.MayAsk.{IsReadOfTables};
 ghost use Rattle.arguments.specs.declared.tables_from.TablesFrom.TheVariants.{File, Listing};
 ghost use Rattle.log_run.specs.Counts.{IsCounted};
 ghost use Rattle.table_groups.specs.View.{View};
@@ -82,6 +84,7 @@ fn write_of_file<'a, F: Folder, K: Sink, C: ViewText, H: BuildHasher + Drop>(
     ensures disk { IsCounted Status.DiskFault (F.faults folder.old) (F.faults folder.new) result }
     ensures write { IsCounted Status.WriteFault (K.faults out.old) (K.faults out.new) result }
     ensures same { F.past folder.new ≡ F.past folder.old }
+    ensures asks { OnlyCalls IsReadOfTables (F.calls folder.old) (F.calls folder.new) }
 {
     let tables = match open_peers(alloc, Lent::of(hasher), kind, asmap, folder, learned) {
         Ok(tables) => tables,
@@ -117,6 +120,7 @@ pub(crate) fn write_of_listing<'a, F: Folder, K: Sink, C: ViewText, H: BuildHash
     ensures disk { IsCounted Status.DiskFault (F.faults folder.old) (F.faults folder.new) result }
     ensures write { IsCounted Status.WriteFault (K.faults out.old) (K.faults out.new) result }
     ensures same { F.past folder.new ≡ F.past folder.old }
+    ensures asks { OnlyCalls IsReadOfTables (F.calls folder.old) (F.calls folder.new) }
 {
     let view = match open_listing(alloc, asmap, folder, learned) {
         Ok(view) => view,
@@ -156,6 +160,7 @@ pub(crate) fn write_view<F: Folder, K: Sink, C: ViewText, H: BuildHasher + Drop>
     ensures disk { IsCounted Status.DiskFault (F.faults folder.old) (F.faults folder.new) result }
     ensures write { IsCounted Status.WriteFault (K.faults out.old) (K.faults out.new) result }
     ensures same { F.past folder.new ≡ F.past folder.old }
+    ensures asks { OnlyCalls IsReadOfTables (F.calls folder.old) (F.calls folder.new) }
 {
     let mut asmap = None;
     match from {

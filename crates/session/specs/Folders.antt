@@ -1,7 +1,10 @@
 -- What a line of a log does to the folder.
 use Rattle.std.specs.Prelude.{◌≡◌, ◌⊎◌, ℕ, ◌≤◌, List, Option, Some, None, ⊤}
 use Rattle.std.proofs.Common.{inl, inr}
+use Rattle.host_io.specs.Calls.{IsSaveOf, OnlyCalls}
 use Rattle.host_io.specs.Past.{Always, Past}
+use Rattle.host_io.specs.declared.call.Action.{Action}
+use Rattle.host_io.specs.declared.name.Name.TheVariants.{Peers, PeersTemp}
 use Rattle.log_lines.specs.Spelling.{SpellsCommand}
 use Rattle.log_lines.specs.declared.command.Command.{Command}
 use Rattle.log_run.specs.Worlds.{StepsIn}
@@ -46,8 +49,11 @@ SessionLeavesPart old line new =
     ⊎ ((asked : Command) × (machine : Machine) × SpellsCommand line asked
     × manager.LeavesPart old.machine asked machine × (new ≡ record old { machine = machine }))
 
--- What a line does to a session and a folder, by the folder's past and its count of faults.
-abbrev pub SessionStep : {F : Type 0} → (F → Option Past) → (F → ℕ) → StepsIn SessionState F
-SessionStep past faults old before line text new after =
+-- What a line does to a session and a folder, by the folder's past, its count of faults and its
+-- calls.
+abbrev pub SessionStep : {F : Type 0} → (F → Option Past) → (F → ℕ) → (F → Option (List Action)) →
+    StepsIn SessionState F
+SessionStep past faults calls old before line text new after =
     Turn old line text new (past before) (past after) (faults before) (faults after)
     × IsOpen new.job (past after) × (faults before ≤ faults after)
+    × OnlyCalls (IsSaveOf PeersTemp Peers) (calls before) (calls after)

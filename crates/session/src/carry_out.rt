@@ -1,6 +1,8 @@
 ghost use Rattle.std.specs.Prelude.{◌≡◌, ◌+◌, ◌*◌, ◌≤◌, ◌<◌, ◌^◌, IfOk, OnErr};
 ghost use Rattle.addr_codecs.specs.declared.message.TheConstants.{MAX_ENTRIES};
+ghost use Rattle.host_io.specs.Calls.{IsSaveOf, OnlyCalls};
 ghost use Rattle.host_io.specs.Past.{Always};
+ghost use Rattle.host_io.specs.declared.name.Name.TheVariants.{Peers, PeersTemp};
 ghost use Rattle.manager.specs.Step.{Step, SavesNothing, HasPercent, LeavesPart};
 ghost use Rattle.session_saves.specs.Events.{IsEvent};
 ghost use Rattle.session_saves.specs.Files.{file_of, published};
@@ -70,6 +72,8 @@ pub(crate) fn carry_out<F: Folder, H: BuildHasher>(
         × LeavesPart manager.old command.now manager.new) }
     ensures numbers { manager.new.tables.next_number
         ≤ manager.old.tables.next_number + MAX_ENTRIES }
+    ensures asks { OnlyCalls (IsSaveOf PeersTemp Peers)
+        (F.calls folder.old) (F.calls folder.new) }
     ensures never_falls { F.faults folder.old ≤ F.faults folder.new }
 {
     match carry_out_save(alloc, folder, manager.tables(), chain, job, command) {

@@ -34,7 +34,9 @@ impl<'a, H: BuildHasher> Model for Session<'a, H> {
 impl<'a, H: BuildHasher> Session<'a, H> {
     ghost use Rattle.std.specs.Prelude.{◌≡◌, ◌≢◌, ◌+◌, ◌≤◌, ◌<◌, ◌^◌, ◌++◌, ◌⊎◌, ℕ, List, Option, None, Err, OnOk, OnErr, IsErrOf};
     ghost use Rattle.addr_codecs.specs.declared.message.TheConstants.{MAX_ENTRIES};
+    ghost use Rattle.host_io.specs.Calls.{IsSaveOf, OnlyCalls};
     ghost use Rattle.host_io.specs.Past.{Always};
+    ghost use Rattle.host_io.specs.declared.name.Name.TheVariants.{Peers, PeersTemp};
     ghost use Rattle.log_lines.specs.Spelling.{HasCommandFault, SpellsCommand};
     ghost use Rattle.manager.specs.Step.{HasPercent};
     ghost use Rattle.session.specs.Folders.{IsEventLine, SessionLeavesPart, MayPublish, Turn};
@@ -61,6 +63,7 @@ impl<'a, H: BuildHasher> Session<'a, H> {
     /// Carries out a line of a log, which has no line feed, and appends the text of its reply: none
     /// for a line that is passed over. `save` replaces peers.dat; `save-begin`, `save-step` and
     /// `save-end` do so in pieces. The reply is `not saved` only if the folder failed.
+    #[tactic(auto, using(host_io::proofs::Asking::none))]
     pub fn line<F: Folder>(
         &mut self,
         alloc: Global,
@@ -89,6 +92,8 @@ impl<'a, H: BuildHasher> Session<'a, H> {
         ensures list { OnErr result (out.new.items ≡ out.old.items) }
         ensures numbers { self.new.machine.tables.next_number
             ≤ self.old.machine.tables.next_number + MAX_ENTRIES }
+        ensures asks { OnlyCalls (IsSaveOf PeersTemp Peers)
+            (F.calls folder.old) (F.calls folder.new) }
         ensures never_falls { F.faults folder.old ≤ F.faults folder.new }
     {
         match read_line(alloc, line) {
@@ -129,6 +134,8 @@ impl<'a, H: BuildHasher> Session<'a, H> {
         ensures list { OnErr result (out.new.items ≡ out.old.items) }
         ensures numbers { self.new.machine.tables.next_number
             ≤ self.old.machine.tables.next_number + MAX_ENTRIES }
+        ensures asks { OnlyCalls (IsSaveOf PeersTemp Peers)
+            (F.calls folder.old) (F.calls folder.new) }
         ensures never_falls { F.faults folder.old ≤ F.faults folder.new }
     {
         let (manager, job) = (&mut self.manager, &mut self.job);
@@ -149,7 +156,7 @@ impl<'a, F: Folder, H: BuildHasher> LineSteps<F> for Session<'a, H> {
     ghost use Rattle.session.specs.Folders.{SessionStep};
     ghost use Rattle.session_saves.specs.Folders.{IsOpen};
 
-    ghost step = { SessionStep F.past F.faults };
+    ghost step = { SessionStep F.past F.faults F.calls };
 
     ghost has_fault = { HasCommandFault };
 

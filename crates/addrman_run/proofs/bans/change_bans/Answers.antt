@@ -1,5 +1,8 @@
+use Rattle.host_io.specs.declared.name.Name.TheVariants as name
+use Rattle.addrman_run.specs.Bans.{IsNewFile}
 use Rattle.addrman_run.specs.Inside.{IsAnswer}
-use Rattle.addrman_run.proofs.Banning.{kept, at_each, no_bans, ended}
+use Rattle.addrman_run.proofs.Banning.{at_each, no_bans, ended}
+use Rattle.addrman_run.proofs.OneSaves.{kept}
 use Rattle.addrman_run.proofs.bans.change_bans.Goals as goal
 
 pub returns-in-Err-clause-text : goal.returns-in-Err-clause-text
@@ -10,7 +13,7 @@ returns-in-Err-clause-text g c =
 pub returns-in-Err-clause-any_moment : goal.returns-in-Err-clause-any_moment
 returns-in-Err-clause-any_moment g c =
     let R = c.args.rule in
-    kept R (g.C.BanCommand.change R c.args.command.now) (g.F.Folder.past c.args.folder.now) (g.F.Folder.past c.load_bans.new.folder) c.load_bans.ensures.same
+    kept name.BansTemp name.Bans (IsNewFile R (g.C.BanCommand.change R c.args.command.now) (g.F.Folder.past c.args.folder.now)) _ _ c.load_bans.ensures.same
 
 pub returns-in-Ok-output_of-clause-text : goal.returns-in-Ok-output_of-clause-text
 returns-in-Ok-output_of-clause-text g c =
@@ -35,4 +38,4 @@ returns-in-Ok-output_of-clause-any_moment g c =
 pub returns-in-Err-output_of-clause-any_moment : goal.returns-in-Err-output_of-clause-any_moment
 returns-in-Err-output_of-clause-any_moment g c =
     let R = c.args.rule in
-    kept R (g.C.BanCommand.change R c.args.command.now) (g.F.Folder.past c.args.folder.now) (g.F.Folder.past c.load_bans.new.folder) c.load_bans.ensures.same
+    kept name.BansTemp name.Bans (IsNewFile R (g.C.BanCommand.change R c.args.command.now) (g.F.Folder.past c.args.folder.now)) _ _ c.load_bans.ensures.same

@@ -1,5 +1,7 @@
 use Rattle.std.proofs.Common.{refl, rules, subst, sym}
+use Rattle.host_io.specs.Calls.{OnlyCalls}
 use Rattle.host_io.specs.Outside.{outside}
+use Rattle.addrman_run.specs.MayAsk.{MayAsk}
 use Rattle.addrman_run.specs.Outcome.{Ends}
 use Rattle.addrman_run.specs.Untouched.{AsksNoFolder, ReadsNoLog}
 use Rattle.addrman_run.proofs.Asked.{asks_something, not_read, same_request}
@@ -23,6 +25,15 @@ returns-in_default-clause-outcome g c = λ request asks.
 pub returns-in_default-clause-complete : goal.returns-in_default-clause-complete
 returns-in_default-clause-complete g c = λ request asks.
     absurd (not_read c.read_request.result request (search rules) (c.read_request.ensures.only request asks))
+
+pub returns-in_default-clause-asks : goal.returns-in_default-clause-asks
+returns-in_default-clause-asks g c = λ request asks.
+    absurd (not_read c.read_request.result request (search rules) (c.read_request.ensures.only request asks))
+
+pub returns-clause-asks : goal.returns-clause-asks
+returns-clause-asks g c = λ request asks.
+    let same = same_request c.read_request.result c.in-Some.request request c.in-Some.is (c.read_request.ensures.only request asks) in
+    subst (λ r. OnlyCalls (MayAsk r) (g.F.Folder.calls c.args.folder.now) (g.F.Folder.calls c.carry_out.new.folder)) same c.carry_out.ensures.asks
 
 pub returns-clause-arguments : goal.returns-clause-arguments
 returns-clause-arguments g c = asks_something _ _ c.in-Some.request c.carry_out.ensures.asked c.in-Some.ensures.found

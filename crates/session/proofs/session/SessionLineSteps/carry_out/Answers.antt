@@ -30,6 +30,6 @@ pub returns-in-Err-clause-memory : goal.returns-in-Err-clause-memory
 returns-in-Err-clause-memory g c = λ is.
     let told = c.of.ensures.memory (same_stop _ _ is) in
     elim (c.in-Err.ensures.memory (same_err _ _ told)) [
-      | inl done ↦ inr (done.0, c.line.new.self, (done.1, c.line.ensures.is_open, c.line.ensures.never_falls))
+      | inl done ↦ inr (done.0, c.line.new.self, (done.1, c.line.ensures.is_open, c.line.ensures.never_falls, c.line.ensures.asks))
       | inr left ↦ inl left.1
     ]
