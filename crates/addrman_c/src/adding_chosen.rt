@@ -43,7 +43,7 @@ fn chosen_on(
         return FULL;
     }
     let max = max as usize;
-    let answer = node_calls::take_unbanned(
+    let answer = node_calls::take_chosen(
         alloc, tables, bans, form, payload, &source, max, services, nets, words, now,
     );
     tell(answer, added, fault)

@@ -1,8 +1,8 @@
-ghost use Rattle.std.specs.Prelude.{◌≡◌, ◌<◌, ◌^◌, IfOk, IfErr, OnOk, OnErr, ◌+◌, ◌≤◌, length};
+ghost use Rattle.std.specs.Prelude.{◌≡◌, ◌<◌, ◌^◌, IfOk, IfErr, OnOk, OnErr, ◌≤◌, length};
 ghost use Rattle.table_machine.specs.Entries.{add};
 ghost use Rattle.taking.specs.Taking.{IsAdded, IsMessageFault, AreAdded, HasFirst};
 ghost use Rattle.addr_codecs.specs.declared.message.TheConstants.{MAX_ENTRIES};
-ghost use Rattle.taking.specs.Messages.{take_entry, take_entries};
+ghost use Rattle.taking.specs.Messages.{take_entries};
 ghost use Rattle.taking.specs.Inside.{IsEntriesFault};
 ghost use Rattle.node_calls.specs.First.{IsFirstAdded, IsFirstFault};
 
@@ -14,7 +14,7 @@ use std::marker::Brand;
 use std::sync::ledger::{Blank, Ledger};
 use steps::Steps;
 use tables::{Memory, Tables};
-use taking::{Added, MessageFault, clamp_time};
+use taking::{Added, MessageFault};
 
 /// Adds an entry that `source` announced, with a penalty in seconds and a random word, at a time in
 /// seconds since 1970. Returns `true` if the entry's peer gets a slot. If memory runs out, nothing
@@ -114,10 +114,6 @@ fn count_take_message<H: BuildHasher, L: Ledger>(
     taking::take_message(alloc, tables, form, payload, source, words, now, &mut steps)
 }
 
-/// What is subtracted from the time of an entry that a peer announces of another, in seconds, as
-/// `taking::take_message` does.
-const MESSAGE_PENALTY: u32 = 7200;
-
 /// Does what `take_message` does with at most so many entries of the message, the first ones, those
 /// that are skipped among them: as many as a limit on received addresses lets through.
 pub fn take_first<H: BuildHasher>(
@@ -140,7 +136,7 @@ pub fn take_first<H: BuildHasher>(
         Ok(entries) => {
             let entries = entries.items();
             let first = &entries[..max.min(entries.len())];
-            take_all(tables, first, source, words, now)
+            count_take_all::<H, Brand>(tables, first, source, words, now, Blank::new(1))
         }
         Err(MsgFault::Memory) => Err(MessageFault::Memory),
         Err(fault) => Err(MessageFault::Refused(fault)),
@@ -148,13 +144,17 @@ pub fn take_first<H: BuildHasher>(
 }
 
 /// Adds these entries of a message, unless there are fewer random words.
-fn take_all<H: BuildHasher>(
+fn count_take_all<H: BuildHasher, L: Ledger>(
     tables: &mut Tables<'_, H>,
     entries: &[Option<Entry>],
     source: &NetAddr,
     words: &[u64],
     now: u32,
+    blank: Blank,
 ) -> Result<Added, MessageFault>
+    requires name { blank.name ≡ L.name }
+    requires parts { blank.parts ≡ L.parts }
+    requires one { blank.parts ≡ 1 }
     requires more { tables.old.next_number < 2 ^ 62 }
     requires few { length entries.now ≤ MAX_ENTRIES }
     ensures added { IfOk result (λ added. AreAdded entries.now tables.old now source.now
@@ -162,29 +162,22 @@ fn take_all<H: BuildHasher>(
     ensures cause { IfErr result (λ fault. IsEntriesFault entries.now tables.old now source.now
         words.now fault tables.new) }
 {
-    if entries.len() > words.len() {
-        return Err(MessageFault::ShortWords {
-            need: entries.len() as u32,
-            have: words.len() as u32,
-        });
-    }
-    match take_entries(tables, entries, source, words, now) {
-        Ok(accepted) => Ok(Added {
-            accepted,
-            total: entries.len() as u32,
-        }),
-        Err(_) => Err(MessageFault::Memory),
-    }
+    let mut steps = Steps::<L>::none(blank);
+    taking::take_all(tables, entries, source, words, now, &mut steps)
 }
 
 /// Adds entries in order, each with the random word at its index, and returns how many got a slot.
-pub(crate) fn take_entries<H: BuildHasher>(
+pub(crate) fn count_take_entries<H: BuildHasher, L: Ledger>(
     tables: &mut Tables<'_, H>,
     entries: &[Option<Entry>],
     source: &NetAddr,
     words: &[u64],
     now: u32,
+    blank: Blank,
 ) -> Result<u32, Memory>
+    requires name { blank.name ≡ L.name }
+    requires parts { blank.parts ≡ L.parts }
+    requires one { blank.parts ≡ 1 }
     requires more { tables.old.next_number < 2 ^ 62 }
     requires few { length entries.now ≤ MAX_ENTRIES }
     requires words { length entries.now ≤ length words.now }
@@ -195,36 +188,6 @@ pub(crate) fn take_entries<H: BuildHasher>(
     ensures err { OnErr result (HasFirst entries.now tables.old now source.now words.now
         tables.new) }
 {
-    let mut count = 0;
-    for (i, entry) in entries.iter().enumerate() {
-        let answer = take_entry(tables, entry, source, words[i], now)?;
-        count += u32::from(answer);
-    }
-    Ok(count)
-}
-
-/// Adds an entry with its random word, and returns whether it got a slot. A skipped one changes
-/// nothing.
-fn take_entry<H: BuildHasher>(
-    tables: &mut Tables<'_, H>,
-    entry: &Option<Entry>,
-    source: &NetAddr,
-    word: u64,
-    now: u32,
-) -> Result<bool, Memory>
-    requires more { tables.old.next_number < 2 ^ 63 }
-    ensures answer { IfOk result (λ answer. answer
-        ≡ (take_entry tables.old now entry.now source.now word).answer) }
-    ensures state { OnOk result (tables.new
-        ≡ (take_entry tables.old now entry.now source.now word).state) }
-    ensures numbers { tables.new.next_number ≤ tables.old.next_number + 1 }
-    ensures err { OnErr result (tables.new ≡ tables.old) }
-{
-    match entry {
-        Some(entry) => {
-            let entry = clamp_time(entry, now);
-            add(tables, &entry, source, MESSAGE_PENALTY, word, now)
-        }
-        None => Ok(false),
-    }
+    let mut steps = Steps::<L>::none(blank);
+    taking::take_entries(tables, entries, source, words, now, &mut steps)
 }

@@ -1,49 +1,26 @@
-ghost use Rattle.std.specs.Prelude.{◌≡◌, ◌≤◌, ◌<◌, ◌^◌, [], length, map, min, IfOk, IfErr};
+ghost use Rattle.std.specs.Prelude.{◌≡◌, ◌≤◌, ◌<◌, ◌^◌, length, map, min, IfOk, IfErr};
 ghost use Rattle.addr_codecs.specs.declared.message.TheConstants.{MAX_ENTRIES};
 ghost use Rattle.node_calls.specs.Chosen.{AreChosen, AreNotChosen, IsChosenAdded, IsChosenFault, chosen, is_free, is_useful, network_of, shuffled, useful};
 
-use crate::adding::take_entries;
+use crate::adding::count_take_entries;
 use addr_codecs::{Form, MsgFault, read_message};
 use ban_list::Bans;
 use net_addr::{Entry, Net, NetAddr, NetSet};
 use std::alloc::Global;
 use std::hash::BuildHasher;
+use std::marker::Brand;
+use std::sync::ledger::Blank;
 use tables::{Memory, Tables};
 use taking::{Added, MessageFault};
 
 /// Does what `take_message` does with the entries of a message that a node has a use for. They are
-/// shuffled, and at most `most` of them are let through, the first ones. Of these the others are
-/// skipped: those that have none of the services of a mask, and those whose network is not in
-/// `nets` (`ProcessMessage` in net_processing.cpp of Bitcoin Core, where a mask has the bits of
-/// `NODE_NETWORK` and `NODE_NETWORK_LIMITED`, 0x401). The first random words are for the shuffle,
-/// one for each entry; each that is let through then has one.
+/// shuffled, and at most `max` of them are let through, the first ones. Of these the others are
+/// skipped: those that have none of the services of a mask, those whose network is not in `nets`
+/// (`ProcessMessage` in net_processing.cpp of Bitcoin Core, where a mask has the bits of
+/// `NODE_NETWORK` and `NODE_NETWORK_LIMITED`, 0x401), and those whose addresses are banned now. The
+/// first random words are for the shuffle, one for each entry; each that is let through then has
+/// one. It looks at each ban for each entry that is let through.
 pub fn take_chosen<H: BuildHasher>(
-    alloc: Global,
-    tables: &mut Tables<'_, H>,
-    form: Form,
-    payload: &[u8],
-    source: &NetAddr,
-    max: usize,
-    services: u64,
-    nets: NetSet,
-    words: &[u64],
-    now: u32,
-) -> Result<Added, MessageFault>
-    requires room { tables.old.next_number < 2 ^ 62 }
-    ensures added { IfOk result (λ added. IsChosenAdded form payload.now max services nets []
-        tables.old now source.now words.now added tables.new) }
-    ensures cause { IfErr result (λ fault. IsChosenFault form payload.now max services nets []
-        tables.old now source.now words.now fault tables.new) }
-{
-    let none = Bans::make(alloc);
-    take_unbanned(
-        alloc, tables, &none, form, payload, source, max, services, nets, words, now,
-    )
-}
-
-/// Does the same, and skips the entries whose addresses are banned now, too. It looks at each ban
-/// for each entry that is let through.
-pub fn take_unbanned<H: BuildHasher>(
     alloc: Global,
     tables: &mut Tables<'_, H>,
     bans: &Bans,
@@ -105,7 +82,15 @@ fn take_some<H: BuildHasher>(
         return Err(MessageFault::Memory);
     };
     let rest = &words[entries.len()..];
-    match take_entries(tables, found.as_slice(), source, rest, now) {
+    let added = count_take_entries::<H, Brand>(
+        tables,
+        found.as_slice(),
+        source,
+        rest,
+        now,
+        Blank::new(1),
+    );
+    match added {
         Ok(accepted) => Ok(Added {
             accepted,
             total: found.len() as u32,

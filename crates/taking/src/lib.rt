@@ -9,4 +9,4 @@
 
 mod messages;
 
-pub use messages::{Added, MessageFault, clamp_time, take_message};
+pub use messages::{Added, MessageFault, clamp_time, take_all, take_entries, take_message};

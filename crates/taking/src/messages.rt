@@ -62,7 +62,7 @@ pub fn take_message<H: BuildHasher, L: Ledger>(
 }
 
 /// Adds the entries of a message, unless there are fewer random words.
-fn take_all<H: BuildHasher, L: Ledger>(
+pub fn take_all<H: BuildHasher, L: Ledger>(
     tables: &mut Tables<'_, H>,
     entries: &[Option<Entry>],
     source: &NetAddr,
@@ -95,7 +95,7 @@ fn take_all<H: BuildHasher, L: Ledger>(
 
 /// Adds the entries of a message in order, each with the random word at its index, and returns how
 /// many got a slot.
-fn take_entries<H: BuildHasher, L: Ledger>(
+pub fn take_entries<H: BuildHasher, L: Ledger>(
     tables: &mut Tables<'_, H>,
     entries: &[Option<Entry>],
     source: &NetAddr,
