@@ -34,10 +34,9 @@ AreShares out parts =
     (out.picks ≡ parts.picks) × (out.new_only ≡ parts.new) × (out.tried ≡ parts.tried)
 
 -- The parts of the picks that fall to peers with an address in one of the sets. One that is not
--- valid is refused.
+-- valid is refused, before memory is taken.
 abbrev pub RiskCall : List AddrmanSet → State → ℕ → ℕ → AddrmanShares → Type 0
 RiskCall structs st now code out =
-    (code ≡ MEMORY)
-    ⊎ (((length (sets_in structs) < length structs) × (code ≡ ARGUMENT))
-    ⊎ ((length (sets_in structs) ≡ length structs) × (code ≡ OK)
-    × AreShares out (parts_for st now (is_among st.places (sets_in structs)))))
+    ((length (sets_in structs) < length structs) × (code ≡ ARGUMENT))
+    ⊎ ((length (sets_in structs) ≡ length structs) × ((code ≡ MEMORY) ⊎ ((code ≡ OK)
+    × AreShares out (parts_for st now (is_among st.places (sets_in structs))))))

@@ -55,6 +55,20 @@ fn read_set(set: &AddrmanSet) -> Option<AddrSet>
     subnet_of(read_addr(&set.base)?, set.prefix)
 }
 
+/// Returns how many of the sets are valid.
+fn count_sets(structs: &[AddrmanSet]) -> usize
+    ensures count { result ≡ length (sets_in structs.now) }
+    ensures few { result ≤ length structs.now }
+{
+    let mut count = 0;
+    for i in 0..structs.len() {
+        if read_set(&structs[i]).is_some() {
+            count += 1;
+        }
+    }
+    count
+}
+
 /// Reads the sets, without those that are not valid.
 fn read_sets(alloc: Global, structs: &[AddrmanSet]) -> Result<Vec<AddrSet>, Memory>
     ensures found { IfOk result (λ sets. sets.items ≡ sets_in structs.now) }
@@ -80,12 +94,12 @@ fn risk_on(
     ensures call { RiskCall structs.now tables.now now result shares.new }
     ensures same { result ≢ OK → shares.new ≡ shares.old }
 {
+    if count_sets(structs) < structs.len() {
+        return ARGUMENT;
+    }
     let Ok(sets) = read_sets(alloc, structs) else {
         return MEMORY;
     };
-    if sets.len() < structs.len() {
-        return ARGUMENT;
-    }
     match set_parts(alloc, tables, sets.as_slice(), now) {
         Ok(parts) => {
             *shares = AddrmanShares {
