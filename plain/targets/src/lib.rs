@@ -33,10 +33,10 @@ pub unsafe extern "C" fn target_anchors(bytes: *const u8, length: usize) -> bool
 fn reads_anchors(bytes: &[u8]) -> Option<()> {
     let magic = [0xf9, 0xbe, 0xb4, 0xd9];
     let found = anchors::read_file(Global, bytes, magic).ok()?;
-    let written = anchors::write_file(Global, found.items(), magic).ok().expect("there is memory");
+    let written = anchors::write_file(Global, found.items(), magic).expect("there is memory");
     let again = anchors::read_file(Global, written.items(), magic);
-    let again = again.ok().expect("what is written is read");
-    let second = anchors::write_file(Global, again.items(), magic).ok().expect("there is memory");
+    let again = again.expect("what is written is read");
+    let second = anchors::write_file(Global, again.items(), magic).expect("there is memory");
     assert!(second.items() == written.items());
     Some(())
 }
