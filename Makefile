@@ -6,6 +6,7 @@
 # make package    writes the crate for Rust as one package, at bin/package, and has cargo check it
 # make plain-lib  builds the library for C with cargo, at bin/lib
 # make sanitized-lib  the same with overflow checks and AddressSanitizer, for tools/lib_calls
+# make fuzz       runs each target of fuzz/ for a minute, where clang is; SECONDS_EACH and TARGETS say otherwise
 # make bench      builds with cargo the program that the scripts of bench/ take
 # make try        runs examples from the source, before anything is proved
 # make ci-try     runs those of diff and lookup alone
@@ -57,7 +58,7 @@ KIT = $(shell dirname "$$(dirname "$$(readlink -f "$$(command -v rt)")")")
 
 .PHONY: all book plain check proved package plain-lib plain-archive sanitized-lib bench try ci-try demo examples \
 	flood page page-test endings mistakes packed test figures lib lib-test ci-lib-test ci-program-test \
-	archive install install-lib uninstall dist release
+	archive install install-lib uninstall dist release fuzz
 
 # Where cargo builds, below bin/.
 CARGO = cd bin/plain && cargo build --quiet --release --target-dir ../target
@@ -83,6 +84,15 @@ proved:
 package:
 	tools/plain --package bin/package > /dev/null
 	cd bin/package && cargo package --quiet --allow-dirty --target-dir ../target
+
+# An input that fails ends the run, and is left in bin/fuzz.
+SECONDS_EACH ?= 60
+TARGETS ?= $(patsubst fuzz/%.c,%,$(wildcard fuzz/*.c))
+fuzz:
+	@if ! echo 'int LLVMFuzzerTestOneInput(const char *p, unsigned long n) { return !p || !n; }' \
+		| clang -x c -fsanitize=fuzzer,address -o /dev/null - 2> /dev/null; then \
+		echo 'make fuzz: clang with its libFuzzer is not there: no target is run'; else \
+		fuzz/build.sh && fuzz/run $(SECONDS_EACH) $(TARGETS); fi
 
 bench: plain
 	$(CARGO) -p plain_bench

@@ -55,8 +55,6 @@ pub(crate) struct Given<'a> {
     pub words: Vec<String>,
     /// The files that are read in the place of those of the current folder.
     pub paths: Paths<'a>,
-    /// The asmap beside a named peers.dat in another folder, unless an option names an asmap.
-    pub beside: String,
     /// What is said of an option that the program takes itself, if its value is wrong. `run`
     /// refuses the arguments then.
     pub hint: String,
@@ -89,20 +87,50 @@ pub(crate) fn folder_of(words: &[String]) -> Option<(&str, usize)> {
     }
 }
 
+/// Returns the path of the asmap beside a peers.dat that an option names for a command under an
+/// asmap; nothing if the file is in the current folder, where the asmap is anyway.
+pub(crate) fn asmap_beside(alloc: Global, words: &[String]) -> Result<String, AllocError> {
+    let mut is_named = false;
+    let is_placing = match words {
+        [command, ..] => is_among(&PLACING, command.as_str()),
+        [] => false,
+    };
+    for word in words {
+        let word = word.as_str();
+        let path = if is_named {
+            Some(word)
+        } else {
+            word.strip_prefix("--peers=")
+        };
+        is_named = word == "--peers";
+        let folder = match path {
+            Some(path) => path.rsplit_once('/'),
+            None => None,
+        };
+        match folder {
+            Some((folder, _)) if is_placing => {
+                return format!(in alloc; "{folder}/{}", Name::Asmap.file_name());
+            }
+            _ => {}
+        }
+    }
+    Ok(String::new(alloc))
+}
+
 impl<'a> Given<'a> {
     /// Makes the arguments of a run: `help COMMAND` if an option asks for it, `version` for `-V`,
     /// and for `--key-file FILE` the key in the file, so that the list of processes doesn't have
     /// it. Options that name a file to be read are left out. The arguments are in the order of
-    /// `put_in_order`.
+    /// `put_in_order`. `beside` is the asmap beside a named peers.dat, or empty.
     pub(crate) fn of<R: Files>(
         alloc: Global,
         rt: &R,
         words: &'a [String],
+        beside: &'a str,
     ) -> Result<Given<'a>, AllocError> {
         let mut given = Given {
             words: Vec::new(alloc),
             paths: Paths::none(),
-            beside: String::new(alloc),
             hint: String::new(alloc),
         };
         let Some((command, rest)) = words.split_first() else {
@@ -116,6 +144,7 @@ impl<'a> Given<'a> {
         }
         given.add(alloc, if command == "-V" { "version" } else { command })?;
         given.add_all(alloc, rt, command, rest)?;
+        given.place_asmap(beside);
         Ok(given)
     }
 
@@ -136,22 +165,15 @@ impl<'a> Given<'a> {
         for word in rest {
             next = self.take(alloc, rt, command, next, word.as_str())?;
         }
-        self.place_anchors(alloc, rest)?;
-        if is_among(&PLACING, command) && self.paths.asmap.is_none() {
-            self.find_beside(alloc)?;
-        }
-        Ok(())
+        self.place_anchors(alloc, rest)
     }
 
-    /// Finds the path of the asmap beside a named peers.dat, unless that is in the current folder.
-    fn find_beside(&mut self, alloc: Global) -> Result<(), AllocError> {
-        let Some(path) = self.paths.peers else {
-            return Ok(());
-        };
-        if let Some((folder, _)) = path.rsplit_once('/') {
-            self.beside = format!(in alloc; "{folder}/{}", Name::Asmap.file_name())?;
+    /// Has this asmap read, if there is one, unless an option names another.
+    fn place_asmap(&mut self, beside: &'a str) {
+        if !beside.is_empty() && self.paths.asmap.is_none() {
+            self.paths.asmap = Some(beside);
+            self.paths.is_beside = true;
         }
-        Ok(())
     }
 
     /// Has the folder's anchors.dat read, if no option names another file. The option comes once.

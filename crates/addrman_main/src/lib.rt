@@ -15,7 +15,7 @@ mod in_order;
 mod placed;
 mod second;
 
-use crate::given::{Given, folder_of};
+use crate::given::{Given, asmap_beside, folder_of};
 use crate::in_order::put_in_order;
 use crate::placed::Placed;
 pub use crate::second::Facts;
@@ -135,7 +135,10 @@ pub fn run_program(rt: &HostRuntime) -> Ended {
     let Ok(ordered) = put_in_order(rt.alloc(), rest) else {
         return Ended::before_the_run("addrman: the arguments cannot be read\n");
     };
-    match Given::of(rt.alloc(), rt, ordered.as_slice()) {
+    let Ok(beside) = asmap_beside(rt.alloc(), ordered.as_slice()) else {
+        return Ended::before_the_run("addrman: the arguments cannot be read\n");
+    };
+    match Given::of(rt.alloc(), rt, ordered.as_slice(), beside.as_str()) {
         Ok(given) => run_over(rt, hasher, &given, rt.reader(), io::writer(rt)),
         Err(_) => Ended::before_the_run("addrman: the arguments cannot be read\n"),
     }
@@ -173,12 +176,7 @@ fn run_over<I: Read + Drop, O: Write + Drop>(
     let alloc = rt.alloc();
     let words = given.words.as_slice();
     let tells_saves = words.first().is_some_and(|word| word.as_str() == "replay");
-    let mut paths = given.paths;
-    if !given.beside.is_empty() {
-        paths.asmap = Some(given.beside.as_str());
-        paths.is_beside = true;
-    }
-    let placed = Placed::make(rt, paths);
+    let placed = Placed::make(rt, given.paths);
     let mut log = StdSource::make(input);
     let listing = listing_of(alloc, given, &mut log);
     let text = match &listing {
@@ -200,9 +198,11 @@ fn run_over<I: Read + Drop, O: Write + Drop>(
             &mut learned,
         ),
     };
-    let failure = folder.failure_text(&paths).unwrap_or(String::new(alloc));
+    let failure = folder
+        .failure_text(&given.paths)
+        .unwrap_or(String::new(alloc));
     let status = match placed.missing() {
-        Some(Name::Peers) if paths.has_anchors => Status::NoAnchors,
+        Some(Name::Peers) if given.paths.has_anchors => Status::NoAnchors,
         Some(name) => Status::NoFile { name },
         None => status,
     };
@@ -210,7 +210,7 @@ fn run_over<I: Read + Drop, O: Write + Drop>(
         words,
         hint: given.hint.as_str(),
         learned: &learned,
-        paths: &paths,
+        paths: &given.paths,
         input: log.error(),
         output: out.error(),
         failure: failure.as_str(),

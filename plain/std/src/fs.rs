@@ -84,6 +84,7 @@ impl File {
     }
 
     /// Locks the file, unless another process has.
+    #[cfg(unix)]
     pub fn try_lock(&self) -> Result<(), TryLockError> {
         use std::os::unix::io::AsRawFd;
         // SAFETY: the descriptor is open.
@@ -95,6 +96,12 @@ impl File {
             std::io::ErrorKind::WouldBlock => Err(TryLockError::WouldBlock),
             _ => Err(TryLockError::Error(error)),
         }
+    }
+
+    /// Refuses: std locks no file in the oldest Rust that builds this, and `flock` is of Unix.
+    #[cfg(not(unix))]
+    pub fn try_lock(&self) -> Result<(), TryLockError> {
+        Err(TryLockError::Error(std::io::ErrorKind::Unsupported.into()))
     }
 }
 
