@@ -279,5 +279,5 @@ LEAST = {
     'refused trailing': 1, 'refused non-canonical': 1, 'refused too-many': 1, 'short': 8,
     'ok': 60, 'unknown': 20, 'moved': 15, 'already': 15, 'clash': 15, 'none': 8, 'one': 15,
     'exhausted': 10, 'nothing': 1, 'sample': 8, 'sample none': 2, 'resolved erased': 2,
-    'resolved moved': 3, 'resolved kept': 4, 'resolved nothing': 5, 'peer': 15,
+    'resolved moved': 3, 'resolved kept': 1, 'resolved nothing': 5, 'peer': 15,
     'find unknown': 4, 'size': 8, 'passed over': 3}
